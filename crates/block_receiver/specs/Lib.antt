@@ -1,1 +1,9 @@
 pub mod Packets
+pub mod AckCodec
+pub mod LinkPieces
+pub mod MemberCore
+pub mod OpHeaders
+pub mod PacketCodec
+pub mod ProtoFields
+pub mod ReplicaFiles
+pub mod ReplicaModel

@@ -2,16 +2,16 @@
 
 ghost use Rattle.std.specs.Prelude.{◌≡◌, ◌<◌, length, IfOk, IfSome};
 ghost use Rattle.packet_codec.specs.Packets.{IsEncodable, SpellsPacket, packet_text};
-ghost use Rattle.replica_core.specs.declared.ack_queue.TheConstants.{MAX_PENDING};
-ghost use Rattle.replica_model.specs.declared.events.ReplicaEvent.TheVariants as ReplicaEvent;
+ghost use Rattle.member_core.specs.ReplicaCore.TheConstants.{MAX_PENDING};
+ghost use Rattle.member_core.specs.ReplicaModel.ReplicaEvent.TheVariants as ReplicaEvent;
 ghost use Rattle.replica_files.specs.Endings.{BookEnds};
 ghost use Rattle.block_receiver.specs.Packets.{booked_as, taken_as, PassesOn, PassesTo};
 
 use crate::spellings::as_written;
 use hd_base::{ConnId, Files, LinkOut, Receipt};
 use link_pieces::{send_piece, take_room};
+use member_core::Refusal;
 use packet_codec::{Packet, encode_packet};
-use replica_core::Refusal;
 use replica_files::{BookFault, ReplicaBook};
 use std::alloc::{AllocError, Global};
 

@@ -13,3 +13,8 @@ pub mod Taking
 pub mod Telling
 pub mod Failing
 pub mod Awaiting
+pub mod FrameFeed
+pub mod LinkMessages
+pub mod RecoveryCore
+pub mod ReplicaFiles
+pub mod ReplicaModel

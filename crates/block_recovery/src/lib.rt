@@ -20,9 +20,11 @@ mod taking;
 mod telling;
 
 pub use driving::recover;
+pub use link_messages::Incoming;
 pub use links::{Link, Seat};
 pub use members::MemberHeard;
 pub use primary::{Primary, PrimaryStep};
+pub use replica_files::ReplicaBook;
 pub use serving::{RecoveryServed, answer_recovery};
 pub use taking::{RecoveryCame, next_recovery};
 pub use telling::{RecoveryTold, serve_recovery};

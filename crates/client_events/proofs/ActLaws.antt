@@ -10,32 +10,32 @@ use Rattle.hd_base.specs.declared.links.LinkIn as link_in
 use Rattle.hd_base.specs.declared.links.LinkOut as link_out
 use Rattle.hd_base.specs.declared.numbers.BlockId.{BlockId}
 use Rattle.hd_base.specs.declared.roads.Roads as roads
-use Rattle.link_messages.specs.Incomings.{IncomingState}
+use Rattle.pipe_recovery.specs.LinkMessages.Incomings.{IncomingState}
 use Rattle.name_core.specs.Offices.{OfficeState}
 use Rattle.packet_codec.specs.Packets.{packet_text}
 use Rattle.packet_codec.specs.declared.packets.Packet.{Packet}
-use Rattle.pipe_member.proofs.SizeLemmas.{encodable}
+use Rattle.member_events.proofs.PipeMember.SizeLemmas.{encodable}
 use Rattle.pipe_recovery.specs.declared.links.Link.{Link}
 use Rattle.road_traffic.proofs.CallLemmas.{sent-shows, quiet-shows}
 use Rattle.road_traffic.proofs.TrafficLemmas.{same-itself}
 use Rattle.road_traffic.specs.Showing.{Net}
-use Rattle.world.specs.declared.events.Event.{Event}
-use Rattle.world.specs.declared.events.TakenCommand.{TakenCommand}
-use Rattle.world.specs.Parts.{Message, packet, Writing}
-use Rattle.world.specs.Parts as parts
-use Rattle.world.specs.Worlds.{World, Change, add, apply}
-use Rattle.world.specs.Clients.{writing_as, did, did_step, own_writer, writer_step, takes_command, takes_given, command_bytes, is_empty, is_formed, ruled}
-use Rattle.world.specs.Events.{outcome, happens, is_enabled}
-use Rattle.world_nets.specs.Changes.{sent_by, shut_by}
-use Rattle.world_nets.specs.Rows.{Row, rows_of, sends, shuts_if, text_of}
-use Rattle.world_nets.specs.Nets.{held_by, is_over}
-use Rattle.world_nets.specs.Steps.{SendsBy}
-use Rattle.world_nets.specs.Flushing.{upper_flushes, action_sends}
-use Rattle.world_nets.proofs.DrawnLemmas.{own-makes}
-use Rattle.world_nets.proofs.EndLemmas.{same-end}
-use Rattle.world_nets.proofs.FlushingLemmas.{writer-sends}
-use Rattle.world_nets.proofs.StepLemmas.{changed-net, changed-over, followed, rows-by}
-use Rattle.world_texts.specs.Texts.{SpellsText}
+use Rattle.member_events.specs.World.Event.{Event}
+use Rattle.member_events.specs.World.TakenCommand.{TakenCommand}
+use Rattle.member_events.specs.World.Parts.{Message, packet, Writing}
+use Rattle.member_events.specs.World.Parts as parts
+use Rattle.member_events.specs.World.Worlds.{World, Change, add, apply}
+use Rattle.member_events.specs.World.Clients.{writing_as, did, did_step, own_writer, writer_step, takes_command, takes_given, command_bytes, is_empty, is_formed, ruled}
+use Rattle.member_events.specs.World.Events.{outcome, happens, is_enabled}
+use Rattle.member_events.specs.WorldNets.Changes.{sent_by, shut_by}
+use Rattle.member_events.specs.WorldNets.Rows.{Row, rows_of, sends, shuts_if, text_of}
+use Rattle.member_events.specs.WorldNets.Nets.{held_by, is_over}
+use Rattle.member_events.specs.WorldNets.Steps.{SendsBy}
+use Rattle.member_events.specs.WorldNets.Flushing.{upper_flushes, action_sends}
+use Rattle.member_events.proofs.WorldNets.DrawnLemmas.{own-makes}
+use Rattle.member_events.proofs.WorldNets.EndLemmas.{same-end}
+use Rattle.member_events.proofs.WorldNets.FlushingLemmas.{writer-sends}
+use Rattle.member_events.proofs.WorldNets.StepLemmas.{changed-net, changed-over, followed, rows-by}
+use Rattle.member_events.specs.WorldTexts.Texts.{SpellsText}
 use Rattle.writer_core.specs.declared.actions.Action.{Action}
 use Rattle.writer_core.specs.declared.actions.Action.TheVariants as action
 use Rattle.writer_core.specs.declared.phases.Waiting.{Waiting}

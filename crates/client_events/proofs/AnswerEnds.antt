@@ -10,7 +10,7 @@ use Rattle.hd_base.specs.declared.links.LinkIn as link_in
 use Rattle.hd_base.specs.declared.links.LinkOut as link_out
 use Rattle.hd_base.specs.declared.numbers.ConnId.{ConnId}
 use Rattle.hd_base.specs.declared.roads.Roads as roads
-use Rattle.link_messages.specs.Incomings.{IncomingState, nothing_received}
+use Rattle.pipe_recovery.specs.LinkMessages.Incomings.{IncomingState, nothing_received}
 use Rattle.link_pieces.specs.Roads.{ExchangesEnd, BringsEnd}
 use Rattle.name_core.specs.declared.desks.Desk as desks
 use Rattle.name_core.specs.Offices.{OfficeState}
@@ -32,21 +32,21 @@ use Rattle.pipe_recovery.specs.Links.{LooksAt}
 use Rattle.road_traffic.specs.Laws.{Took}
 use Rattle.road_traffic.specs.Showing.{Net}
 use Rattle.road_traffic.proofs.TrafficLemmas.{same-itself}
-use Rattle.world.specs.declared.events.Event.{Event}
-use Rattle.world.specs.declared.events.Event.TheVariants as event
-use Rattle.world.specs.Parts.{by_writer, Writing}
-use Rattle.world.specs.Worlds.{World, Change, apply}
-use Rattle.world.specs.Connections.{Next, message, the_end, up_taken, is_conn}
-use Rattle.world.specs.Clients.{writing_as, writer_hears}
-use Rattle.world.specs.Events.{happens}
-use Rattle.world_nets.specs.Drawn.{ComesUp, HearsPipe, hears_as}
-use Rattle.world_nets.specs.Nets.{IsEndOf, held_by, inbox_for, is_over}
-use Rattle.world_nets.specs.Steps.{SendsBy, is_end, taken_net}
-use Rattle.world_nets.specs.Flushing.{upper_flushes}
-use Rattle.world_nets.proofs.DrawnLemmas.{up-makes}
-use Rattle.world_nets.proofs.EndLemmas.{stays, same-end}
-use Rattle.world_nets.proofs.FlushingLemmas.{writer-sends}
-use Rattle.world_nets.proofs.StepLemmas.{changed-net, changed-over, followed, taken-net, taken-over}
+use Rattle.member_events.specs.World.Event.{Event}
+use Rattle.member_events.specs.World.Event.TheVariants as event
+use Rattle.member_events.specs.World.Parts.{by_writer, Writing}
+use Rattle.member_events.specs.World.Worlds.{World, Change, apply}
+use Rattle.member_events.specs.World.Connections.{Next, message, the_end, up_taken, is_conn}
+use Rattle.member_events.specs.World.Clients.{writing_as, writer_hears}
+use Rattle.member_events.specs.World.Events.{happens}
+use Rattle.member_events.specs.WorldNets.Drawn.{ComesUp, HearsPipe, hears_as}
+use Rattle.member_events.specs.WorldNets.Nets.{IsEndOf, held_by, inbox_for, is_over}
+use Rattle.member_events.specs.WorldNets.Steps.{SendsBy, is_end, taken_net}
+use Rattle.member_events.specs.WorldNets.Flushing.{upper_flushes}
+use Rattle.member_events.proofs.WorldNets.DrawnLemmas.{up-makes}
+use Rattle.member_events.proofs.WorldNets.EndLemmas.{stays, same-end}
+use Rattle.member_events.proofs.WorldNets.FlushingLemmas.{writer-sends}
+use Rattle.member_events.proofs.WorldNets.StepLemmas.{changed-net, changed-over, followed, taken-net, taken-over}
 use Rattle.writer_core.specs.declared.phases.Failure.{Failure}
 use Rattle.writer_core.specs.declared.phases.Failure.TheVariants as failure
 use Rattle.writer_core.specs.declared.phases.Phase.{Phase}

@@ -8,13 +8,13 @@ use Rattle.hd_base.specs.declared.links.LinkIn as link_in
 use Rattle.hd_base.specs.declared.numbers.NodeId.{NodeId}
 use Rattle.ack_codec.specs.ResponseTexts.{response_text}
 use Rattle.ack_codec.specs.declared.responses.Response.{Response}
-use Rattle.frame_feed.specs.Kinds.{responses}
-use Rattle.frame_feed.specs.KindLaws.{responses_sound}
-use Rattle.link_messages.specs.declared.incoming.Next.{Next as Came}
-use Rattle.link_messages.specs.declared.incoming.Next.TheVariants as came
-use Rattle.link_messages.specs.Incomings.{IncomingState, nothing_received, NextEnds}
-use Rattle.pipe_member.specs.declared.stages.Looked.TheVariants as member_looked
-use Rattle.pipe_member.specs.Looks as member_looks
+use Rattle.pipe_recovery.specs.FrameFeed.Kinds.{responses}
+use Rattle.pipe_recovery.specs.FrameFeed.KindLaws.{responses_sound}
+use Rattle.pipe_recovery.specs.LinkMessages.Next.{Next as Came}
+use Rattle.pipe_recovery.specs.LinkMessages.Next.TheVariants as came
+use Rattle.pipe_recovery.specs.LinkMessages.Incomings.{IncomingState, nothing_received, NextEnds}
+use Rattle.member_events.specs.PipeMember.Looked.TheVariants as member_looked
+use Rattle.member_events.specs.PipeMember.Looks as member_looks
 use Rattle.pipe_recovery.specs.declared.acting.Acted.{Acted}
 use Rattle.pipe_recovery.specs.declared.acting.Acted.TheVariants as acted
 use Rattle.pipe_recovery.specs.declared.hearing.Answer.{Answer}
@@ -25,12 +25,12 @@ use Rattle.pipe_recovery.specs.Hearing.{HeardState, nothing_heard, answer_of, lo
 use Rattle.pipe_recovery.specs.Links.{LooksAt}
 use Rattle.pipe_recovery.specs.Naming.{is_address, named_member}
 use Rattle.pipe_recovery.specs.Steps.{fits_accepted, keeps_link, TakesAs, Takes}
-use Rattle.world.specs.Clients.{writer_hears}
-use Rattle.world.specs.Clients as clients
-use Rattle.world.specs.Parts.{response}
-use Rattle.world.specs.Connections.{Next, message, the_end}
-use Rattle.world_nets.specs.Nets.{held_by, inbox_for}
-use Rattle.world_nets.specs.Steps.{is_end}
+use Rattle.member_events.specs.World.Clients.{writer_hears}
+use Rattle.member_events.specs.World.Clients as clients
+use Rattle.member_events.specs.World.Parts.{response}
+use Rattle.member_events.specs.World.Connections.{Next, message, the_end}
+use Rattle.member_events.specs.WorldNets.Nets.{held_by, inbox_for}
+use Rattle.member_events.specs.WorldNets.Steps.{is_end}
 use Rattle.writer_core.specs.declared.phases.Phase.{Phase}
 use Rattle.writer_core.specs.declared.phases.Phase.TheVariants as phase
 use Rattle.writer_core.specs.declared.phases.Remedy.{Remedy}

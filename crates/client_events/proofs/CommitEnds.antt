@@ -9,7 +9,7 @@ use Rattle.hd_base.specs.declared.numbers.BlockId.{BlockId}
 use Rattle.hd_base.specs.declared.numbers.ConnId.{ConnId}
 use Rattle.hd_base.specs.declared.numbers.Stamp.{Stamp}
 use Rattle.hd_base.specs.declared.roads.Roads as roads
-use Rattle.link_messages.specs.Incomings.{nothing_received}
+use Rattle.pipe_recovery.specs.LinkMessages.Incomings.{nothing_received}
 use Rattle.name_core.specs.declared.desks.Desk as desks
 use Rattle.name_core.specs.Offices.{OfficeState}
 use Rattle.pipe_recovery.specs.declared.acting.Acted.{Acted}
@@ -22,21 +22,21 @@ use Rattle.pipe_recovery.specs.declared.rebuilding.Rebuilt.TheVariants as rebuil
 use Rattle.pipe_recovery.specs.Reports.{Streams, EndsAs, Reports, ReportsAt, failed_as}
 use Rattle.pipe_recovery.specs.Steps.{fits_in, fits_accepted, keeps_link, Hears, ElseAsks, AsksAndDials, HearsOrAsks, SettlesTold, Steps}
 use Rattle.road_traffic.specs.Showing.{Net}
-use Rattle.world.specs.declared.events.Caller.TheVariants as caller
-use Rattle.world.specs.declared.events.Event.{Event}
-use Rattle.world.specs.declared.events.Event.TheVariants as event
-use Rattle.world.specs.Parts.{Writing}
-use Rattle.world.specs.Parts as parts
-use Rattle.world.specs.Worlds.{World, Change, apply}
-use Rattle.world.specs.Clients.{writing_as, writer_change, reached_answer, did, rest_in}
-use Rattle.world.specs.Events.{outcome, happens}
-use Rattle.world_nets.specs.Nets.{IsNetOf, held_by, is_over}
-use Rattle.world_nets.specs.Ends.{IsElsewhere}
-use Rattle.world_nets.specs.Steps.{SendsBy}
-use Rattle.world_nets.specs.Flushing.{upper_flushes}
-use Rattle.world_nets.proofs.EndLemmas.{same-end}
-use Rattle.world_nets.proofs.FlushingLemmas.{writer-sends}
-use Rattle.world_nets.proofs.StepLemmas.{changed-net, changed-over, followed}
+use Rattle.member_events.specs.World.Caller.TheVariants as caller
+use Rattle.member_events.specs.World.Event.{Event}
+use Rattle.member_events.specs.World.Event.TheVariants as event
+use Rattle.member_events.specs.World.Parts.{Writing}
+use Rattle.member_events.specs.World.Parts as parts
+use Rattle.member_events.specs.World.Worlds.{World, Change, apply}
+use Rattle.member_events.specs.World.Clients.{writing_as, writer_change, reached_answer, did, rest_in}
+use Rattle.member_events.specs.World.Events.{outcome, happens}
+use Rattle.member_events.specs.WorldNets.Nets.{IsNetOf, held_by, is_over}
+use Rattle.member_events.specs.WorldNets.Ends.{IsElsewhere}
+use Rattle.member_events.specs.WorldNets.Steps.{SendsBy}
+use Rattle.member_events.specs.WorldNets.Flushing.{upper_flushes}
+use Rattle.member_events.proofs.WorldNets.EndLemmas.{same-end}
+use Rattle.member_events.proofs.WorldNets.FlushingLemmas.{writer-sends}
+use Rattle.member_events.proofs.WorldNets.StepLemmas.{changed-net, changed-over, followed}
 use Rattle.writer_core.specs.declared.actions.ClientAnswer.TheVariants as answer
 use Rattle.writer_core.specs.declared.phases.Failure.{Failure}
 use Rattle.writer_core.specs.declared.phases.Phase.{Phase}

@@ -7,10 +7,10 @@ use Rattle.hd_base.specs.declared.links.LinkOut as link_out
 use Rattle.hd_base.specs.declared.numbers.Stamp.{Stamp}
 use Rattle.hd_base.specs.declared.roads.Roads as roads
 use Rattle.ack_codec.specs.declared.responses.Response.{Response}
-use Rattle.frame_feed.specs.Kinds.{responses}
-use Rattle.link_messages.specs.declared.incoming.Next.{Next as Came}
-use Rattle.link_messages.specs.declared.incoming.Next.TheVariants as came
-use Rattle.link_messages.specs.Incomings.{IncomingState, nothing_received, coming, FindsNone, NextEnds}
+use Rattle.pipe_recovery.specs.FrameFeed.Kinds.{responses}
+use Rattle.pipe_recovery.specs.LinkMessages.Next.{Next as Came}
+use Rattle.pipe_recovery.specs.LinkMessages.Next.TheVariants as came
+use Rattle.pipe_recovery.specs.LinkMessages.Incomings.{IncomingState, nothing_received, coming, FindsNone, NextEnds}
 use Rattle.name_core.specs.declared.calls.OfficeAnswer.{OfficeAnswer}
 use Rattle.name_core.specs.declared.calls.OfficeAnswer.TheVariants as granted_as
 use Rattle.name_core.specs.declared.calls.OfficeCall.{OfficeCall}
@@ -31,8 +31,8 @@ use Rattle.pipe_recovery.specs.Hearing.{HeardState, nothing_heard, answer_of, lo
 use Rattle.pipe_recovery.specs.Links.{LooksAt}
 use Rattle.pipe_recovery.specs.Steps.{fits_accepted, is_stamped, keeps_link, HearsNextAs, HearsSeen, HearsGiven, GoesOn, AsksAndDials, HearsOrAsks, Acts}
 use Rattle.road_traffic.specs.Laws.{Took}
-use Rattle.world.specs.Parts.{Told}
-use Rattle.world_nets.specs.Nets.{held_by}
+use Rattle.member_events.specs.World.Parts.{Told}
+use Rattle.member_events.specs.WorldNets.Nets.{held_by}
 use Rattle.writer_core.specs.declared.actions.Action.TheVariants as action
 use Rattle.writer_core.specs.declared.phases.Phase.{Phase}
 use Rattle.writer_core.specs.declared.phases.Phase.TheVariants as phase

@@ -16,23 +16,23 @@ use Rattle.name_core.specs.declared.faults.OfficeFault.TheVariants as office_fau
 use Rattle.name_core.specs.Books.{is_entry}
 use Rattle.name_core.specs.Desks.{AnswersAsOffice, office_after_answer}
 use Rattle.name_core.specs.Offices.{OfficeState, office_after, answer_to}
-use Rattle.packet_stream.specs.Streams.{written_in}
+use Rattle.member_events.specs.PacketStream.Streams.{written_in}
 use Rattle.road_traffic.specs.Showing.{Net}
-use Rattle.world.specs.declared.events.Caller.TheVariants as caller
-use Rattle.world.specs.declared.events.Event.{Event}
-use Rattle.world.specs.declared.events.Event.TheVariants as event
-use Rattle.world.specs.Parts.{Told, Writing}
-use Rattle.world.specs.Parts as parts
-use Rattle.world.specs.Worlds.{World, Change, apply}
-use Rattle.world.specs.Clients.{writing_as, writer_change, own_writer, writer_step, reached_answer, did, rest_in}
-use Rattle.world.specs.Events.{outcome, happens}
-use Rattle.world.specs.Primaries.{asks_writer}
-use Rattle.world_nets.specs.Steps.{SendsBy}
-use Rattle.world_nets.specs.Flushing.{upper_flushes, action_sends}
-use Rattle.world_nets.proofs.DrawnLemmas.{own-makes, asks-make}
-use Rattle.world_nets.proofs.EndLemmas.{same-end}
-use Rattle.world_nets.proofs.FlushingLemmas.{writer-sends}
-use Rattle.world_nets.proofs.StepLemmas.{changed-net, changed-over, followed}
+use Rattle.member_events.specs.World.Caller.TheVariants as caller
+use Rattle.member_events.specs.World.Event.{Event}
+use Rattle.member_events.specs.World.Event.TheVariants as event
+use Rattle.member_events.specs.World.Parts.{Told, Writing}
+use Rattle.member_events.specs.World.Parts as parts
+use Rattle.member_events.specs.World.Worlds.{World, Change, apply}
+use Rattle.member_events.specs.World.Clients.{writing_as, writer_change, own_writer, writer_step, reached_answer, did, rest_in}
+use Rattle.member_events.specs.World.Events.{outcome, happens}
+use Rattle.member_events.specs.World.Primaries.{asks_writer}
+use Rattle.member_events.specs.WorldNets.Steps.{SendsBy}
+use Rattle.member_events.specs.WorldNets.Flushing.{upper_flushes, action_sends}
+use Rattle.member_events.proofs.WorldNets.DrawnLemmas.{own-makes, asks-make}
+use Rattle.member_events.proofs.WorldNets.EndLemmas.{same-end}
+use Rattle.member_events.proofs.WorldNets.FlushingLemmas.{writer-sends}
+use Rattle.member_events.proofs.WorldNets.StepLemmas.{changed-net, changed-over, followed}
 use Rattle.writer_core.specs.declared.actions.Action.{Action}
 use Rattle.writer_core.specs.declared.actions.Action.TheVariants as action
 use Rattle.writer_core.specs.declared.actions.ClientAnswer.TheVariants as answer

@@ -6,10 +6,10 @@ use Rattle.hd_base.specs.declared.links.LinkIn as link_in
 use Rattle.hd_base.specs.declared.links.LinkOut as link_out
 use Rattle.hd_base.specs.declared.numbers.Stamp.{Stamp}
 use Rattle.hd_base.specs.declared.roads.Roads as roads
-use Rattle.link_messages.specs.Incomings.{IncomingState}
+use Rattle.pipe_recovery.specs.LinkMessages.Incomings.{IncomingState}
 use Rattle.name_core.specs.declared.calls.OfficeCall.{OfficeCall}
 use Rattle.name_core.specs.declared.desks.Desk as desks
-use Rattle.pipe_member.specs.declared.stages.Looked.{Looked}
+use Rattle.member_events.specs.PipeMember.Looked.{Looked}
 use Rattle.pipe_recovery.specs.declared.acting.Acted as acting
 use Rattle.pipe_recovery.specs.declared.acting.Acted.TheVariants as acted
 use Rattle.pipe_recovery.specs.declared.hearing.Answer.{Answer}

@@ -7,29 +7,29 @@ use Rattle.hd_base.specs.declared.links.LinkOut as link_out
 use Rattle.hd_base.specs.declared.numbers.ConnId.{ConnId}
 use Rattle.hd_base.specs.declared.roads.Roads as roads
 use Rattle.ack_codec.specs.AckTexts.{ack_text}
-use Rattle.frame_feed.specs.Kinds.{acks}
-use Rattle.frame_feed.specs.KindLaws.{acks_sound}
-use Rattle.link_messages.specs.Incomings.{IncomingState, nothing_received, NextEnds}
+use Rattle.pipe_recovery.specs.FrameFeed.Kinds.{acks}
+use Rattle.pipe_recovery.specs.FrameFeed.KindLaws.{acks_sound}
+use Rattle.pipe_recovery.specs.LinkMessages.Incomings.{IncomingState, nothing_received, NextEnds}
 use Rattle.link_pieces.specs.Roads.{ExchangesEnd, names}
 use Rattle.name_core.specs.Offices.{OfficeState}
-use Rattle.pipe_member.specs.declared.stages.Looked.TheVariants as looked
+use Rattle.member_events.specs.PipeMember.Looked.TheVariants as looked
 use Rattle.road_traffic.specs.Showing.{Net}
 use Rattle.road_traffic.specs.Laws.{Took}
 use Rattle.road_traffic.proofs.TrafficLemmas.{same-itself}
-use Rattle.world.specs.declared.events.Event.TheVariants as event
-use Rattle.world.specs.Parts.{ack, Writing}
-use Rattle.world.specs.Worlds.{World, Change, apply}
-use Rattle.world.specs.Connections.{Next, message, the_end, up_taken, is_conn}
-use Rattle.world.specs.Clients.{writing_as, writer_hears}
-use Rattle.world.specs.Events.{happens}
-use Rattle.world_nets.specs.Nets.{held_by, inbox_for, is_over}
-use Rattle.world_nets.specs.Drawn.{HearsPipe, hears_as}
-use Rattle.world_nets.specs.Steps.{SendsBy, taken_net, is_end}
-use Rattle.world_nets.specs.Flushing.{upper_flushes}
-use Rattle.world_nets.proofs.DrawnLemmas.{up-makes}
-use Rattle.world_nets.proofs.EndLemmas.{stays}
-use Rattle.world_nets.proofs.FlushingLemmas.{writer-sends}
-use Rattle.world_nets.proofs.StepLemmas.{taken-net, taken-over}
+use Rattle.member_events.specs.World.Event.TheVariants as event
+use Rattle.member_events.specs.World.Parts.{ack, Writing}
+use Rattle.member_events.specs.World.Worlds.{World, Change, apply}
+use Rattle.member_events.specs.World.Connections.{Next, message, the_end, up_taken, is_conn}
+use Rattle.member_events.specs.World.Clients.{writing_as, writer_hears}
+use Rattle.member_events.specs.World.Events.{happens}
+use Rattle.member_events.specs.WorldNets.Nets.{held_by, inbox_for, is_over}
+use Rattle.member_events.specs.WorldNets.Drawn.{HearsPipe, hears_as}
+use Rattle.member_events.specs.WorldNets.Steps.{SendsBy, taken_net, is_end}
+use Rattle.member_events.specs.WorldNets.Flushing.{upper_flushes}
+use Rattle.member_events.proofs.WorldNets.DrawnLemmas.{up-makes}
+use Rattle.member_events.proofs.WorldNets.EndLemmas.{stays}
+use Rattle.member_events.proofs.WorldNets.FlushingLemmas.{writer-sends}
+use Rattle.member_events.proofs.WorldNets.StepLemmas.{taken-net, taken-over}
 use Rattle.writer_core.specs.declared.records.WriterRecord.{WriterRecord}
 use Rattle.writer_core.specs.Transitions.{is_connected}
 use Rattle.member_events.proofs.CauseLaws.{in_failed, one_risen}

@@ -13,3 +13,5 @@ pub mod SetUpLaws
 pub mod SetUpEnds
 pub mod SetUpEvents
 pub mod SetUpPass
+pub mod MemberEvents
+pub mod WorldNets

@@ -5,8 +5,8 @@ use Rattle.hd_base.specs.declared.numbers.NodeId.{NodeId}
 use Rattle.hd_base.specs.declared.numbers.Stamp.{Stamp}
 use Rattle.ack_codec.specs.declared.acks.Ack.{Ack}
 use Rattle.ack_codec.specs.declared.responses.Response.{Response}
-use Rattle.link_messages.specs.declared.incoming.Next.{Next}
-use Rattle.link_messages.specs.declared.incoming.Next.TheVariants as came
+use Rattle.pipe_recovery.specs.LinkMessages.Next.{Next}
+use Rattle.pipe_recovery.specs.LinkMessages.Next.TheVariants as came
 use Rattle.name_core.specs.declared.calls.OfficeAnswer.{OfficeAnswer}
 use Rattle.name_core.specs.declared.calls.OfficeAnswer.TheVariants as office
 use Rattle.name_core.specs.declared.calls.Reopened.{Reopened}

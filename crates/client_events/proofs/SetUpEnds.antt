@@ -21,12 +21,12 @@ use Rattle.hd_base.specs.declared.roads.Roads as roads
 use Rattle.hd_base.specs.declared.roads.TheConstants.{FIRST_PORT}
 use Rattle.link_pieces.specs.Pieces.{SendsNothing, SendsPiece, IsSending}
 use Rattle.link_pieces.specs.Roads.{KeepsInward, IsDialled, IsUnanswered, BringsEnd}
-use Rattle.member_core.specs.declared.requests.TheConstants.{MAX_PORT}
+use Rattle.pipe_recovery.specs.MemberCore.TheConstants.{MAX_PORT}
 use Rattle.name_core.specs.declared.desks.Desk as desks
 use Rattle.name_core.specs.Offices.{answer_to}
 use Rattle.op_headers.specs.declared.ops.Op.{Op}
 use Rattle.op_headers.specs.Requests.{IsEncodable}
-use Rattle.packet_stream.specs.Streams.{StreamState}
+use Rattle.member_events.specs.PacketStream.Streams.{StreamState}
 use Rattle.pipe_recovery.specs.declared.acting.Acted.{Acted}
 use Rattle.pipe_recovery.specs.declared.acting.Acted.TheVariants as acted
 use Rattle.pipe_recovery.specs.declared.links.Link.{Link}
@@ -43,25 +43,25 @@ use Rattle.road_traffic.proofs.TrafficLemmas.{same-itself}
 use Rattle.road_traffic.specs.Laws.{Took}
 use Rattle.road_traffic.specs.Showing.{Net, IsSane, EndIs, no_inbox, exchanged_net, dialled_net, accepted_net}
 use Rattle.road_traffic.specs.Traffic.{Traffic}
-use Rattle.world.specs.declared.events.Caller.TheVariants as caller
-use Rattle.world.specs.declared.events.Event.{Event}
-use Rattle.world.specs.declared.events.Event.TheVariants as event
-use Rattle.world.specs.Parts.{Message, request, Writing, Dialled, by_writer}
-use Rattle.world.specs.Worlds.{World, Change, Dial, put, apply}
-use Rattle.world.specs.Connections.{place_of}
-use Rattle.world.specs.Clients.{writer_change, dialled_change, dialling, rest_in}
-use Rattle.world.specs.Events.{outcome, happens}
-use Rattle.world.specs.Primaries.{asks_writer}
-use Rattle.world_nets.specs.Nets.{IsNetOf, IsEndOf, held_by, is_over}
-use Rattle.world_nets.specs.Rows.{text_of}
-use Rattle.world_nets.specs.Dials.{DialsBy, IsAccepted, flushes_with, made_net}
-use Rattle.world_nets.specs.Flushing.{writer_dial}
-use Rattle.world_nets.proofs.DrawnLemmas.{asks-make}
-use Rattle.world_nets.proofs.DialLemmas.{dialled-net, sane-stays, ends-made}
-use Rattle.world_nets.proofs.EndLemmas.{same-end}
-use Rattle.world_nets.proofs.FlushingLemmas.{writer-sends}
-use Rattle.world_nets.proofs.StepLemmas.{changed-over, followed}
-use Rattle.world_texts.specs.Texts.{SpellsText}
+use Rattle.member_events.specs.World.Caller.TheVariants as caller
+use Rattle.member_events.specs.World.Event.{Event}
+use Rattle.member_events.specs.World.Event.TheVariants as event
+use Rattle.member_events.specs.World.Parts.{Message, request, Writing, Dialled, by_writer}
+use Rattle.member_events.specs.World.Worlds.{World, Change, Dial, put, apply}
+use Rattle.member_events.specs.World.Connections.{place_of}
+use Rattle.member_events.specs.World.Clients.{writer_change, dialled_change, dialling, rest_in}
+use Rattle.member_events.specs.World.Events.{outcome, happens}
+use Rattle.member_events.specs.World.Primaries.{asks_writer}
+use Rattle.member_events.specs.WorldNets.Nets.{IsNetOf, IsEndOf, held_by, is_over}
+use Rattle.member_events.specs.WorldNets.Rows.{text_of}
+use Rattle.member_events.specs.WorldNets.Dials.{DialsBy, IsAccepted, flushes_with, made_net}
+use Rattle.member_events.specs.WorldNets.Flushing.{writer_dial}
+use Rattle.member_events.proofs.WorldNets.DrawnLemmas.{asks-make}
+use Rattle.member_events.proofs.WorldNets.DialLemmas.{dialled-net, sane-stays, ends-made}
+use Rattle.member_events.proofs.WorldNets.EndLemmas.{same-end}
+use Rattle.member_events.proofs.WorldNets.FlushingLemmas.{writer-sends}
+use Rattle.member_events.proofs.WorldNets.StepLemmas.{changed-over, followed}
+use Rattle.member_events.specs.WorldTexts.Texts.{SpellsText}
 use Rattle.writer_core.specs.declared.actions.Action.TheVariants as action
 use Rattle.writer_core.specs.declared.phases.Failure.{Failure}
 use Rattle.writer_core.specs.declared.phases.Phase.{Phase}

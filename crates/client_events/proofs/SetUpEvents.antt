@@ -15,13 +15,13 @@ use Rattle.hd_base.specs.declared.numbers.Stamp.{Stamp}
 use Rattle.hd_base.specs.declared.roads.Roads as roads
 use Rattle.hd_base.specs.declared.roads.TheConstants.{FIRST_PORT}
 use Rattle.ack_codec.specs.declared.responses.Response.{Response}
-use Rattle.frame_feed.specs.Kinds.{responses}
-use Rattle.link_messages.specs.declared.incoming.Next.{Next as Came}
-use Rattle.link_messages.specs.declared.incoming.Next.TheVariants as came
-use Rattle.link_messages.specs.Incomings.{IncomingState, nothing_received, coming, IsOver, FindsNone, NextEnds}
+use Rattle.pipe_recovery.specs.FrameFeed.Kinds.{responses}
+use Rattle.pipe_recovery.specs.LinkMessages.Next.{Next as Came}
+use Rattle.pipe_recovery.specs.LinkMessages.Next.TheVariants as came
+use Rattle.pipe_recovery.specs.LinkMessages.Incomings.{IncomingState, nothing_received, coming, IsOver, FindsNone, NextEnds}
 use Rattle.link_pieces.specs.Pieces.{SendsNothing, SendsPiece, IsSending}
 use Rattle.link_pieces.specs.Roads.{KeepsInward, IsDialled}
-use Rattle.member_core.specs.declared.requests.TheConstants.{MAX_PORT}
+use Rattle.pipe_recovery.specs.MemberCore.TheConstants.{MAX_PORT}
 use Rattle.name_core.specs.declared.desks.Desk as desks
 use Rattle.op_headers.specs.declared.ops.Op.{Op}
 use Rattle.op_headers.specs.Requests.{op_text}
@@ -46,7 +46,7 @@ use Rattle.pipe_recovery.specs.Steps.{StillFits, fits_in, is_stamped, keeps_link
 use Rattle.road_traffic.proofs.CallLemmas.{dialled-shows}
 use Rattle.road_traffic.specs.Laws.{Took}
 use Rattle.road_traffic.specs.Showing.{Net, no_inbox}
-use Rattle.world.specs.Worlds.{World}
+use Rattle.member_events.specs.World.Worlds.{World}
 use Rattle.writer_core.specs.declared.phases.Failure.{Failure}
 use Rattle.writer_core.specs.declared.phases.Phase.{Phase}
 use Rattle.writer_core.specs.declared.phases.Phase.TheVariants as phase

@@ -30,7 +30,7 @@ use Rattle.pipe_recovery.specs.Asking.{asked_as, IsPut, Asks}
 use Rattle.pipe_recovery.specs.Dialling.{dial_port, IsSent, SendsTo, Sends, OpensAs, FollowsDial, HasNoWay, Reaches, no_memory, no_way, dials, DialsBy, Dials}
 use Rattle.pipe_recovery.specs.Hearing.{nothing_heard}
 use Rattle.pipe_recovery.specs.Steps.{is_stamped, GoesOn}
-use Rattle.world.specs.Parts.{Told}
+use Rattle.member_events.specs.World.Parts.{Told}
 use Rattle.writer_core.specs.declared.actions.Action.TheVariants as action
 use Rattle.writer_core.specs.declared.commands.Command.{Command}
 use Rattle.writer_core.specs.declared.phases.Failure.{Failure}

@@ -5,23 +5,23 @@ use Rattle.hd_base.specs.declared.links.LinkIn as link_in
 use Rattle.hd_base.specs.declared.links.LinkOut as link_out
 use Rattle.hd_base.specs.declared.numbers.ConnId.{ConnId}
 use Rattle.hd_base.specs.declared.roads.Roads as roads
-use Rattle.link_messages.specs.Incomings.{IncomingState, nothing_received}
+use Rattle.pipe_recovery.specs.LinkMessages.Incomings.{IncomingState, nothing_received}
 use Rattle.link_pieces.specs.Roads.{ExchangesEnd}
 use Rattle.name_core.specs.Offices.{OfficeState}
 use Rattle.road_traffic.specs.Showing.{Net, exchanged_net, lost_net}
 use Rattle.road_traffic.proofs.CallLemmas.{shut-shows}
-use Rattle.world.specs.declared.events.Event.{Event}
-use Rattle.world.specs.Parts.{Message, Writing}
-use Rattle.world.specs.Worlds.{World, Change, apply}
-use Rattle.world.specs.Clients.{writing_as}
-use Rattle.world.specs.Events.{outcome, happens}
-use Rattle.world_nets.specs.Rows.{text_of}
-use Rattle.world_nets.specs.Nets.{IsNetOf, IsEndOf, held_by, is_over}
-use Rattle.world_nets.specs.Ends.{IsElsewhere}
-use Rattle.world_nets.specs.Steps.{SendsBy}
-use Rattle.world_nets.specs.Flushing.{upper_flushes}
-use Rattle.world_nets.proofs.StepLemmas.{changed-net, changed-over, lost-net, followed}
-use Rattle.world_nets.proofs.EndLemmas.{stays}
+use Rattle.member_events.specs.World.Event.{Event}
+use Rattle.member_events.specs.World.Parts.{Message, Writing}
+use Rattle.member_events.specs.World.Worlds.{World, Change, apply}
+use Rattle.member_events.specs.World.Clients.{writing_as}
+use Rattle.member_events.specs.World.Events.{outcome, happens}
+use Rattle.member_events.specs.WorldNets.Rows.{text_of}
+use Rattle.member_events.specs.WorldNets.Nets.{IsNetOf, IsEndOf, held_by, is_over}
+use Rattle.member_events.specs.WorldNets.Ends.{IsElsewhere}
+use Rattle.member_events.specs.WorldNets.Steps.{SendsBy}
+use Rattle.member_events.specs.WorldNets.Flushing.{upper_flushes}
+use Rattle.member_events.proofs.WorldNets.StepLemmas.{changed-net, changed-over, lost-net, followed}
+use Rattle.member_events.proofs.WorldNets.EndLemmas.{stays}
 use Rattle.writer_core.specs.declared.records.WriterRecord.{WriterRecord}
 use Rattle.writer_core.specs.Transitions.{is_connected}
 use Rattle.member_events.proofs.EndLaws.{HeldAt, RoadsAt, end_from, end_passes, end_brought}

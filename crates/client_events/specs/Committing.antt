@@ -1,6 +1,6 @@
 -- The commit of a stamp by the writer of a block.
 use Rattle.std.specs.Prelude.{◌≡◌, Bool, true, false, Result, Ok, Err}
-use Rattle.link_messages.specs.Incomings.{nothing_received}
+use Rattle.pipe_recovery.specs.LinkMessages.Incomings.{nothing_received}
 use Rattle.writer_core.specs.declared.phases.Phase.{Phase}
 use Rattle.writer_core.specs.declared.phases.Phase.TheVariants as phase
 use Rattle.client_events.specs.declared.faults.ClientFault.{ClientFault}

@@ -6,28 +6,28 @@ use Rattle.hd_base.specs.declared.numbers.ConnId.{ConnId}
 use Rattle.hd_base.specs.declared.links.LinkIn as link_in
 use Rattle.hd_base.specs.declared.links.LinkOut as link_out
 use Rattle.hd_base.specs.declared.roads.Roads as roads
-use Rattle.link_messages.specs.Incomings.{IncomingState}
+use Rattle.pipe_recovery.specs.LinkMessages.Incomings.{IncomingState}
 use Rattle.name_core.specs.declared.desks.Desk as desks
 use Rattle.name_core.specs.Offices.{OfficeState}
 use Rattle.road_traffic.specs.Showing.{Net}
-use Rattle.world.specs.declared.events.Caller.TheVariants as caller
-use Rattle.world.specs.declared.events.Event.{Event}
-use Rattle.world.specs.declared.events.Event.TheVariants as event
-use Rattle.world.specs.declared.events.OwnStep.TheVariants as own
-use Rattle.world.specs.declared.events.TakenCommand.{TakenCommand}
-use Rattle.world.specs.Parts.{ack, response, by_writer}
-use Rattle.world.specs.Clients.{ruled}
-use Rattle.world.specs.Worlds.{World}
-use Rattle.world.specs.Connections.{Next, message, the_end}
-use Rattle.world.specs.Events.{happens, is_enabled}
-use Rattle.world_nets.specs.Drawn.{ComesUp}
-use Rattle.world_nets.specs.Nets.{is_over}
+use Rattle.member_events.specs.World.Caller.TheVariants as caller
+use Rattle.member_events.specs.World.Event.{Event}
+use Rattle.member_events.specs.World.Event.TheVariants as event
+use Rattle.member_events.specs.World.OwnStep.TheVariants as own
+use Rattle.member_events.specs.World.TakenCommand.{TakenCommand}
+use Rattle.member_events.specs.World.Parts.{ack, response, by_writer}
+use Rattle.member_events.specs.World.Clients.{ruled}
+use Rattle.member_events.specs.World.Worlds.{World}
+use Rattle.member_events.specs.World.Connections.{Next, message, the_end}
+use Rattle.member_events.specs.World.Events.{happens, is_enabled}
+use Rattle.member_events.specs.WorldNets.Drawn.{ComesUp}
+use Rattle.member_events.specs.WorldNets.Nets.{is_over}
 use Rattle.writer_core.specs.declared.actions.Action.TheVariants as action
 use Rattle.writer_core.specs.declared.phases.Phase.{Phase}
 use Rattle.writer_core.specs.declared.phases.Phase.TheVariants as phase
 use Rattle.writer_core.specs.declared.records.WriterRecord.{WriterRecord}
 use Rattle.writer_core.specs.Transitions.{Step, given, own_step, is_connected}
-use Rattle.world_texts.specs.Texts.{SpellsText}
+use Rattle.member_events.specs.WorldTexts.Texts.{SpellsText}
 use Rattle.member_events.specs.Joining.{SpellDown}
 use Rattle.client_events.specs.declared.acting.Acted.{Acted}
 use Rattle.client_events.specs.declared.acting.Said.{Said}

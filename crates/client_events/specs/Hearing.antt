@@ -2,12 +2,12 @@
 use Rattle.std.specs.Prelude.{◌≡◌}
 use Rattle.hd_base.specs.declared.links.LinkIn as link_in
 use Rattle.ack_codec.specs.declared.acks.Ack.{Ack}
-use Rattle.frame_feed.specs.Kinds.{acks}
-use Rattle.link_messages.specs.declared.incoming.Next.{Next}
-use Rattle.link_messages.specs.declared.incoming.Next.TheVariants as came
-use Rattle.link_messages.specs.Incomings.{IncomingState, NextEnds}
-use Rattle.pipe_member.specs.declared.stages.Looked.{Looked}
-use Rattle.pipe_member.specs.Looks.{looked_of}
+use Rattle.pipe_recovery.specs.FrameFeed.Kinds.{acks}
+use Rattle.pipe_recovery.specs.LinkMessages.Next.{Next}
+use Rattle.pipe_recovery.specs.LinkMessages.Next.TheVariants as came
+use Rattle.pipe_recovery.specs.LinkMessages.Incomings.{IncomingState, NextEnds}
+use Rattle.member_events.specs.PipeMember.Looked.{Looked}
+use Rattle.member_events.specs.PipeMember.Looks.{looked_of}
 use Rattle.writer_core.specs.declared.records.WriterRecord.{WriterRecord}
 use Rattle.writer_core.specs.Transitions.{acked, ended}
 

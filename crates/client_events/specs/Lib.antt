@@ -9,3 +9,9 @@ pub mod Committing
 pub mod Showing
 pub mod Events
 pub mod SettingUp
+pub mod MemberEvents
+pub mod PipeMember
+pub mod PipeRecovery
+pub mod WorldNets
+pub mod WorldTexts
+pub mod WriterCore

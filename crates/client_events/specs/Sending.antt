@@ -4,7 +4,7 @@ use Rattle.hd_base.specs.declared.ends.Conn.{Conn}
 use Rattle.hd_base.specs.declared.links.LinkIn as link_in
 use Rattle.hd_base.specs.declared.links.LinkOut as link_out
 use Rattle.hd_base.specs.declared.roads.Roads as roads
-use Rattle.link_messages.specs.Incomings.{IncomingState}
+use Rattle.pipe_recovery.specs.LinkMessages.Incomings.{IncomingState}
 use Rattle.link_pieces.specs.Pieces.{SendsNothing, SendsPiece}
 use Rattle.packet_codec.specs.Packets.{IsEncodable, packet_text}
 use Rattle.packet_codec.specs.declared.packets.Packet.{Packet}

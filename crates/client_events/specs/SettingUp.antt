@@ -11,15 +11,15 @@ use Rattle.hd_base.specs.declared.numbers.ConnId.{ConnId}
 use Rattle.hd_base.specs.declared.numbers.NodeId.{NodeId}
 use Rattle.hd_base.specs.declared.roads.Roads as roads
 use Rattle.hd_base.specs.declared.roads.TheConstants.{FIRST_PORT}
-use Rattle.member_core.specs.declared.requests.TheConstants.{MAX_PORT}
+use Rattle.pipe_recovery.specs.MemberCore.TheConstants.{MAX_PORT}
 use Rattle.name_core.specs.declared.desks.Desk as desks
 use Rattle.pipe_recovery.specs.declared.links.Link.{Link}
 use Rattle.pipe_recovery.specs.declared.rebuilding.Rebuild.{Rebuild}
 use Rattle.pipe_recovery.specs.Exchanging.{ExchangesLink, BringsLink}
 use Rattle.road_traffic.specs.Showing.{Net}
-use Rattle.world.specs.Parts.{by_writer}
-use Rattle.world.specs.Worlds.{World}
-use Rattle.world_nets.specs.Nets.{IsEndOf}
+use Rattle.member_events.specs.World.Parts.{by_writer}
+use Rattle.member_events.specs.World.Worlds.{World}
+use Rattle.member_events.specs.WorldNets.Nets.{IsEndOf}
 use Rattle.writer_core.specs.declared.phases.Failure.TheVariants as failure
 use Rattle.writer_core.specs.declared.phases.Phase.{Phase}
 use Rattle.writer_core.specs.declared.phases.Phase.TheVariants as phase

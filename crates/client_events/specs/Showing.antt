@@ -6,16 +6,16 @@ use Rattle.hd_base.specs.declared.ends.Conn.{Conn}
 use Rattle.hd_base.specs.declared.links.LinkIn as link_in
 use Rattle.hd_base.specs.declared.links.LinkOut as link_out
 use Rattle.hd_base.specs.declared.roads.Roads as roads
-use Rattle.link_messages.specs.Incomings.{IncomingState, nothing_received}
+use Rattle.pipe_recovery.specs.LinkMessages.Incomings.{IncomingState, nothing_received}
 use Rattle.name_core.specs.Offices.{OfficeState}
 use Rattle.pipe_recovery.specs.declared.links.Link.{Link}
 use Rattle.pipe_recovery.specs.Dialling.{LinkIsKnown}
 use Rattle.pipe_recovery.specs.Steps.{fits_accepted, fits_in, is_stamped}
 use Rattle.pipe_recovery.specs.Hearing.{nothing_heard}
 use Rattle.road_traffic.specs.Showing.{Net}
-use Rattle.world.specs.Worlds.{World}
-use Rattle.world_nets.specs.Nets.{IsNetOf, IsEndOf, is_over}
-use Rattle.world_nets.specs.Ends.{IsElsewhere}
+use Rattle.member_events.specs.World.Worlds.{World}
+use Rattle.member_events.specs.WorldNets.Nets.{IsNetOf, IsEndOf, is_over}
+use Rattle.member_events.specs.WorldNets.Ends.{IsElsewhere}
 use Rattle.writer_core.specs.declared.phases.Phase.{Phase}
 use Rattle.writer_core.specs.declared.phases.Phase.TheVariants as phase
 use Rattle.writer_core.specs.declared.records.WriterRecord.{WriterRecord}

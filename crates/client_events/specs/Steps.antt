@@ -5,7 +5,7 @@ use Rattle.hd_base.specs.declared.numbers.ConnId.{ConnId}
 use Rattle.hd_base.specs.declared.links.LinkIn as link_in
 use Rattle.hd_base.specs.declared.links.LinkOut as link_out
 use Rattle.hd_base.specs.declared.roads.Roads as roads
-use Rattle.link_messages.specs.Incomings.{IncomingState}
+use Rattle.pipe_recovery.specs.LinkMessages.Incomings.{IncomingState}
 use Rattle.link_pieces.specs.Roads.{KeepsInward, ExchangesEnd, BringsEnd, names}
 use Rattle.road_traffic.specs.Laws.{IsShutHalf}
 use Rattle.client_events.specs.declared.faults.ClientFault.{ClientFault}

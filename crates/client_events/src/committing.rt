@@ -13,9 +13,8 @@ use crate::answering::{is_risen, piped};
 use crate::faults::ClientFault;
 use crate::pipes::Pipe;
 use hd_base::{LinkIn, LinkOut, Roads};
-use link_messages::Incoming;
 use name_core::Desk;
-use pipe_recovery::Rebuild;
+use pipe_recovery::{Incoming, Rebuild};
 use std::alloc::Global;
 use writer_core::{Phase, Writer};
 

@@ -2,7 +2,7 @@
 
 ghost use Rattle.std.specs.Prelude.{◌≡◌, IfOk};
 ghost use Rattle.hd_base.specs.Ends.{IsKnown};
-ghost use Rattle.pipe_member.specs.Looks.{looked_of};
+ghost use Rattle.member_events.specs.PipeMember.Looks.{looked_of};
 ghost use Rattle.member_events.specs.Roads.{RoadsPass};
 ghost use Rattle.client_events.specs.Hearing.{told_of, Hears};
 ghost use Rattle.client_events.specs.declared.pipes.Pipe.TheVariants.{Streaming};
@@ -14,8 +14,8 @@ use crate::pipes::Pipe;
 use crate::steps::{exchanged, lost, settled};
 use ack_codec::Ack;
 use hd_base::{Conn, LinkIn, LinkOut, Roads};
-use link_messages::{Incoming, Next};
-use pipe_member::Looked;
+use member_events::Looked;
+use pipe_recovery::{Incoming, Next};
 use std::alloc::Global;
 use writer_core::Writer;
 

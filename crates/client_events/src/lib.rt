@@ -19,5 +19,6 @@ pub use committing::commit;
 pub use completing::complete;
 pub use faults::ClientFault;
 pub use hearing::hear_ack;
+pub use pipe_recovery::Rebuild;
 pub use pipes::Pipe;
 pub use setting_up::{SetUp, set_up};

@@ -1,8 +1,7 @@
 //! The connection of a block's writer.
 
 use hd_base::Conn;
-use link_messages::Incoming;
-use pipe_recovery::Rebuild;
+use pipe_recovery::{Incoming, Rebuild};
 
 /// The connection of a block's writer.
 #[derive(Drop)]

@@ -9,9 +9,9 @@ use crate::faults::ClientFault;
 use crate::pipes::Pipe;
 use crate::steps::{lost, settled};
 use hd_base::{Conn, LinkIn, LinkOut, Roads};
-use link_messages::Incoming;
 use link_pieces::{send_piece, take_room};
 use packet_codec::{Packet, encode_packet};
+use pipe_recovery::Incoming;
 use std::alloc::Global;
 use writer_core::Action;
 

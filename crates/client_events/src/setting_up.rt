@@ -23,9 +23,8 @@ use crate::answering::piped;
 use crate::faults::{ClientFault, road_fault};
 use crate::pipes::Pipe;
 use hd_base::{Conn, ConnId, FIRST_PORT, LinkIn, LinkOut, NodeId, Roads};
-use member_core::MAX_PORT;
 use name_core::Desk;
-use pipe_recovery::{Rebuild, RebuildStep};
+use pipe_recovery::{MAX_PORT, Rebuild, RebuildStep};
 use std::alloc::Global;
 use writer_core::{Failure, Phase, Writer};
 

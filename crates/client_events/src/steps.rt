@@ -7,8 +7,8 @@ ghost use Rattle.client_events.specs.Steps.{IsExchanged, IsLost, IsKept, IsGiven
 use crate::faults::{ClientFault, road_fault};
 use crate::pipes::Pipe;
 use hd_base::{Conn, ConnId, LinkIn, LinkOut, Roads};
-use link_messages::Incoming;
 use link_pieces::exchange_end;
+use pipe_recovery::Incoming;
 use std::alloc::Global;
 
 /// An end that was exchanged; it takes where it is named.

@@ -15,31 +15,31 @@ use Rattle.writer_core.specs.declared.commands.Command.TheVariants as command
 use Rattle.writer_core.specs.declared.intake.Intake.{Intake}
 use Rattle.writer_core.specs.declared.intake.TheConstants.{MAX_COMMANDS}
 use Rattle.writer_core.specs.Commands.{queued_bytes}
-use Rattle.world.specs.Worlds.{add, put}
-use Rattle.world_orders.proofs.Kept.{eqb-itself}
+use Rattle.completing_writers.specs.World.Worlds.{add, put}
+use Rattle.completing_writers.proofs.WorldOrders.Kept.{eqb-itself}
 use Rattle.play_model.specs.declared.dues.Due.{Due}
 use Rattle.play_model.specs.declared.dues.Due.TheVariants as due
 use Rattle.play_model.specs.States.{PlayState, world_of, opened, ordered, ruled}
 use Rattle.play_model.specs.Dues.{is_due, dues, after_due}
 use Rattle.play_model.specs.Draws.{advanced, draws, Settles}
 use Rattle.play_model.specs.Lines.{blocks_of, step_due, PlaysLine, PlaysLines, Plays}
-use Rattle.play_scripts.specs.Fitting.{LineFits, LinesFit, begun}
-use Rattle.play_scripts.specs.Failures.{is_failure, HaveNoFailures}
-use Rattle.play_scripts.specs.Reads.{is_read, HaveNoReads}
+use Rattle.play_lines.specs.PlayScripts.Fitting.{LineFits, LinesFit, begun}
+use Rattle.play_lines.specs.PlayScripts.Failures.{is_failure, HaveNoFailures}
+use Rattle.play_lines.specs.PlayScripts.Reads.{is_read, HaveNoReads}
 use Rattle.play_lines.specs.Lines.{StandIs, GivenIs}
 use Rattle.play_lines.specs.Showing.{given_in}
 use Rattle.play_lines.proofs.Commands.{same_stand}
-use Rattle.play_completeness.specs.Complete.{for_block, line_commands, commands_of, KeepsMembers, WritesBytes, AllDone, ClosesWhole, PlaysComplete}
-use Rattle.play_completeness.specs.Keeping.{PlayedOn}
-use Rattle.play_completeness.specs.Played.{Played, BlockPlayed}
-use Rattle.play_completeness.proofs.Beginning.{opened-on, join-on}
-use Rattle.play_completeness.proofs.Flowing.{get-front}
-use Rattle.play_completeness.proofs.Folding.{advanced-keeps, draws-keep, stepped-keeps}
-use Rattle.play_completeness.proofs.Plays.{Among, none-asked, none-recovered, step-asked}
-use Rattle.play_completeness.proofs.Keeping.{conns-keep}
-use Rattle.play_completeness.proofs.OwnFacts.{own-keeps}
-use Rattle.play_completeness.proofs.ScriptBlocks.{commands-of-blocks}
-use Rattle.play_completeness.proofs.Whole.{settled-complete}
+use Rattle.completing_writers.specs.PlayCompleteness.Complete.{for_block, line_commands, commands_of, KeepsMembers, WritesBytes, AllDone, ClosesWhole, PlaysComplete}
+use Rattle.completing_writers.specs.PlayCompleteness.Keeping.{PlayedOn}
+use Rattle.completing_writers.specs.PlayCompleteness.Played.{Played, BlockPlayed}
+use Rattle.completing_writers.proofs.PlayCompleteness.Beginning.{opened-on, join-on}
+use Rattle.completing_writers.proofs.PlayCompleteness.Flowing.{get-front}
+use Rattle.completing_writers.proofs.PlayCompleteness.Folding.{advanced-keeps, draws-keep, stepped-keeps}
+use Rattle.completing_writers.proofs.PlayCompleteness.Plays.{Among, none-asked, none-recovered, step-asked}
+use Rattle.completing_writers.proofs.PlayCompleteness.Keeping.{conns-keep}
+use Rattle.completing_writers.proofs.PlayCompleteness.OwnFacts.{own-keeps}
+use Rattle.completing_writers.proofs.PlayCompleteness.ScriptBlocks.{commands-of-blocks}
+use Rattle.completing_writers.proofs.PlayCompleteness.Whole.{settled-complete}
 use Rattle.completing_writers.specs.Steps.{CommandsWell}
 use Rattle.completing_lines.specs.Following.{Follows}
 use Rattle.completing_lines.proofs.Following.{command-fits, commands-follow, opened-follows}

@@ -14,19 +14,19 @@ use Rattle.writer_core.specs.declared.intake.Stand.{Stand}
 use Rattle.writer_core.specs.declared.intake.Stand.TheVariants as stand
 use Rattle.writer_core.specs.declared.intake.TheConstants.{MAX_COMMANDS}
 use Rattle.writer_core.specs.Commands.{command_length, queued_bytes, intake_after}
-use Rattle.world.specs.declared.events.TakenCommand.{TakenCommand}
-use Rattle.world.specs.Worlds.{World, add, start}
+use Rattle.completing_writers.specs.World.TakenCommand.{TakenCommand}
+use Rattle.completing_writers.specs.World.Worlds.{World, add, start}
 use Rattle.play_model.specs.States.{PlayState, world_of, ordered}
-use Rattle.play_laws.specs.Intakes.{intake_of}
-use Rattle.play_laws.proofs.Running.{all-run}
-use Rattle.play_scripts.specs.Fitting.{LineFits}
-use Rattle.play_laws.specs.Commands.{CommandFits, given_with}
+use Rattle.play_lines.specs.PlayLaws.Intakes.{intake_of}
+use Rattle.play_lines.proofs.PlayLaws.Running.{all-run}
+use Rattle.play_lines.specs.PlayScripts.Fitting.{LineFits}
+use Rattle.play_lines.specs.PlayLaws.Commands.{CommandFits, given_with}
 use Rattle.play_lines.specs.Lines.{GivenIs}
 use Rattle.play_lines.specs.Showing.{given_in}
 use Rattle.play_lines.proofs.Commands.{Goes, goes, given_more}
-use Rattle.play_completeness.specs.Complete.{for_block, line_commands, KeepsMembers, WritesBytes}
-use Rattle.play_completeness.specs.Played.{QueueFits, stand_of, ordered_queue, BlockPlayed}
-use Rattle.play_completeness.proofs.Awaiting.{plain-keeps-nodes}
+use Rattle.completing_writers.specs.PlayCompleteness.Complete.{for_block, line_commands, KeepsMembers, WritesBytes}
+use Rattle.completing_writers.specs.PlayCompleteness.Played.{QueueFits, stand_of, ordered_queue, BlockPlayed}
+use Rattle.completing_writers.proofs.PlayCompleteness.Awaiting.{plain-keeps-nodes}
 use Rattle.completing_writers.specs.Steps.{CommandsWell}
 use Rattle.completing_writers.proofs.Delivering.{opened-well, commands-join-well}
 use Rattle.completing_writers.proofs.Leaving.{add-here, add-else}

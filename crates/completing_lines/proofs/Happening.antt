@@ -10,28 +10,28 @@ use Rattle.writer_core.specs.declared.actions.Action.TheVariants as action
 use Rattle.writer_core.specs.declared.commands.Command.{Command}
 use Rattle.writer_core.specs.declared.intake.Intake.{Intake}
 use Rattle.writer_core.specs.Transitions.{has_step, is_action}
-use Rattle.world.specs.declared.events.Event.TheVariants as event
-use Rattle.world.specs.declared.events.TakenCommand.{TakenCommand}
-use Rattle.world.specs.Parts.{Upper, by_writer, by_member, by_reader, by_primary, Writing}
-use Rattle.world.specs.Worlds.{World, start}
-use Rattle.world.specs.Events.{happens, run}
-use Rattle.world_laws.proofs.RunLaws.{runs-join}
-use Rattle.world_laws.proofs.StampGivens.{put-here, put-there}
+use Rattle.completing_writers.specs.World.Event.TheVariants as event
+use Rattle.completing_writers.specs.World.TakenCommand.{TakenCommand}
+use Rattle.completing_writers.specs.World.Parts.{Upper, by_writer, by_member, by_reader, by_primary, Writing}
+use Rattle.completing_writers.specs.World.Worlds.{World, start}
+use Rattle.completing_writers.specs.World.Events.{happens, run}
+use Rattle.completing_writers.proofs.WorldLaws.RunLaws.{runs-join}
+use Rattle.completing_writers.proofs.WorldLaws.StampGivens.{put-here, put-there}
 use Rattle.play_model.specs.declared.dues.Due.{Due}
 use Rattle.play_model.specs.declared.dues.Due.TheVariants as due
 use Rattle.play_model.specs.States.{PlayState, world_of}
 use Rattle.play_model.specs.Dues.{own_events, queue_left, action_of, is_due, due_events, queues_after, after_due}
-use Rattle.play_laws.specs.Intakes.{intake_of, is_wait}
-use Rattle.play_laws.proofs.Intakes.{own-steps-keep, hearing-keeps-intakes}
-use Rattle.play_laws.proofs.Commanding.{commands-taken}
-use Rattle.play_laws.proofs.Taking.{admitted-is}
-use Rattle.play_nodes.proofs.WriterKeeping.{down_keeps, ready_keeps, mirror_keeps}
-use Rattle.play_clients.proofs.OtherLaws.{own_steps_keep, hearing_keeps}
-use Rattle.play_laws.specs.Commands.{given_with}
+use Rattle.play_lines.specs.PlayLaws.Intakes.{intake_of, is_wait}
+use Rattle.play_lines.proofs.PlayLaws.Intakes.{own-steps-keep, hearing-keeps-intakes}
+use Rattle.play_lines.proofs.PlayLaws.Commanding.{commands-taken}
+use Rattle.play_lines.proofs.PlayLaws.Taking.{admitted-is}
+use Rattle.play_lines.proofs.PlayNodes.WriterKeeping.{down_keeps, ready_keeps, mirror_keeps}
+use Rattle.play_lines.proofs.PlayClients.OtherLaws.{own_steps_keep, hearing_keeps}
+use Rattle.play_lines.specs.PlayLaws.Commands.{given_with}
 use Rattle.play_lines.specs.Lines.{GivenIs}
 use Rattle.play_lines.specs.Showing.{given_in}
-use Rattle.play_completeness.specs.Plain.{is_of_pipeline}
-use Rattle.play_completeness.specs.Played.{QueueFits, Played}
+use Rattle.completing_writers.specs.PlayCompleteness.Plain.{is_of_pipeline}
+use Rattle.completing_writers.specs.PlayCompleteness.Played.{QueueFits, Played}
 use Rattle.completing_writers.specs.Steps.{PlaysWell, is_own}
 use Rattle.completing_writers.proofs.AllSteps.{all-steps-keep}
 use Rattle.completing_writers.proofs.Delivering.{others-keep}

@@ -14,16 +14,16 @@ use Rattle.writer_core.specs.declared.intake.Intake.{Intake}
 use Rattle.writer_core.specs.declared.intake.Stand.{Stand}
 use Rattle.writer_core.specs.declared.intake.Stand.TheVariants as stand
 use Rattle.writer_core.specs.Commands.{command_length, queued_bytes, fits, stand_after, intake_after}
-use Rattle.world.specs.declared.events.TakenCommand.{TakenCommand}
-use Rattle.world.specs.Clients.{are_distinct, are_members, is_formed}
-use Rattle.world_laws.proofs.FactTables.{and-left}
-use Rattle.world_orders.proofs.Lists.{Behind, get-append}
-use Rattle.play_laws.specs.Members.{IsNode, AreAll, Names}
-use Rattle.play_laws.proofs.Taking.{admitted-is}
-use Rattle.play_laws.specs.Commands.{CommandFits, given_with}
-use Rattle.play_completeness.specs.Complete.{KeepsMembers}
-use Rattle.play_completeness.specs.Played.{QueueFits, stand_of}
-use Rattle.play_completeness.proofs.Flowing.{one-place}
+use Rattle.completing_writers.specs.World.TakenCommand.{TakenCommand}
+use Rattle.completing_writers.specs.World.Clients.{are_distinct, are_members, is_formed}
+use Rattle.completing_writers.proofs.WorldLaws.FactTables.{and-left}
+use Rattle.completing_writers.proofs.WorldOrders.Lists.{Behind, get-append}
+use Rattle.play_lines.specs.PlayLaws.Members.{IsNode, AreAll, Names}
+use Rattle.play_lines.proofs.PlayLaws.Taking.{admitted-is}
+use Rattle.play_lines.specs.PlayLaws.Commands.{CommandFits, given_with}
+use Rattle.completing_writers.specs.PlayCompleteness.Complete.{KeepsMembers}
+use Rattle.completing_writers.specs.PlayCompleteness.Played.{QueueFits, stand_of}
+use Rattle.completing_writers.proofs.PlayCompleteness.Flowing.{one-place}
 use Rattle.completing_writers.specs.Steps.{IsCreate, CommandsWell}
 
 -- WHAT IS QUEUED

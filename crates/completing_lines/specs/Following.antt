@@ -8,16 +8,16 @@ use Rattle.script_lang.specs.Fits.{Before, most_bytes, after}
 use Rattle.writer_core.specs.declared.commands.Command.{Command}
 use Rattle.writer_core.specs.declared.intake.TheConstants.{MAX_COMMANDS}
 use Rattle.writer_core.specs.Commands.{queued_bytes}
-use Rattle.world.specs.Worlds.{add}
+use Rattle.completing_writers.specs.World.Worlds.{add}
 use Rattle.play_model.specs.declared.dues.Due.{Due}
 use Rattle.play_model.specs.declared.dues.Due.TheVariants as due
 use Rattle.play_model.specs.States.{PlayState, world_of, opened, ordered}
 use Rattle.play_model.specs.Dues.{is_due, after_due}
-use Rattle.play_scripts.specs.Fitting.{LineFits, begun}
+use Rattle.play_lines.specs.PlayScripts.Fitting.{LineFits, begun}
 use Rattle.play_lines.specs.Lines.{GivenIs}
 use Rattle.play_lines.specs.Showing.{given_in}
-use Rattle.play_completeness.specs.Complete.{line_commands, KeepsMembers, WritesBytes}
-use Rattle.play_completeness.specs.Played.{Played}
+use Rattle.completing_writers.specs.PlayCompleteness.Complete.{line_commands, KeepsMembers, WritesBytes}
+use Rattle.completing_writers.specs.PlayCompleteness.Played.{Played}
 use Rattle.completing_writers.specs.Steps.{PlaysWell, is_own}
 
 -- A play that is as it should be stands behind lines, so many, that tell this: what each block's writer was given, with

@@ -1,7 +1,7 @@
 //! The lines of a script in plays without failures. Each function has an empty body; its clauses say what holds.
 #![tactic(auto)]
 
-ghost use Rattle.play_completeness.specs.Complete.{PlaysComplete};
+ghost use Rattle.completing_writers.specs.PlayCompleteness.Complete.{PlaysComplete};
 ghost use Rattle.completing_lines.specs.Following.{OpenedFollows, CommandsFollow, OwnStepsFollow, OthersFollow};
 
 /// Each line of a script that gives a command, and fits the lines before it, gives its block's writer one that fits those
@@ -24,3 +24,6 @@ pub fn dues_stay_behind_lines()
 pub fn plays_complete()
     ensures { PlaysComplete }
 {}
+
+pub use completing_writers::plays_are_safe;
+pub use play_lines::{LiveConns, PlayFault, Playing, open_player};

@@ -24,7 +24,7 @@ use Rattle.writer_core.specs.Transitions.{ordinal, reached, reached_length, reac
 use Rattle.world.specs.Parts.{Writing, Said}
 use Rattle.world.specs.Worlds.{World}
 use Rattle.world.specs.Clients.{writing_as}
-use Rattle.world_orders.proofs.Lists.{Behind, get-append}
+use Rattle.play_completeness.proofs.WorldOrders.Lists.{Behind, get-append}
 use Rattle.play_model.specs.States.{PlayState, world_of}
 use Rattle.play_completeness.specs.Complete.{is_done, IsDone, IsGood}
 use Rattle.play_completeness.specs.Writers.{OpensWell, StreamsWell, WellIn}

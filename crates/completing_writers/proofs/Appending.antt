@@ -42,13 +42,13 @@ use Rattle.world.specs.Safe.{Has}
 use Rattle.world.specs.Nodes.{node_on, block_of}
 use Rattle.world_laws.proofs.StampGivens.{put-here}
 use Rattle.world_laws.proofs.Unused.{unused-are-empty}
-use Rattle.world_acks.specs.Acking.{least_of}
-use Rattle.world_writers.specs.Taking.{chain}
+use Rattle.play_completeness.specs.WorldAcks.Acking.{least_of}
+use Rattle.play_completeness.specs.WorldWriters.Taking.{chain}
 use Rattle.play_model.specs.States.{PlayState, world_of}
 use Rattle.play_model.specs.Dues.{acting, action_of}
-use Rattle.play_laws.specs.Writers.{needs_members}
-use Rattle.play_laws.proofs.Resting.{all-rest}
-use Rattle.play_laws.proofs.Running.{all-run}
+use Rattle.play_completeness.specs.PlayLaws.Writers.{needs_members}
+use Rattle.play_completeness.proofs.PlayLaws.Resting.{all-rest}
+use Rattle.play_completeness.proofs.PlayLaws.Running.{all-run}
 use Rattle.play_completeness.specs.Complete.{bytes_after}
 use Rattle.play_completeness.specs.Plain.{IsLeased}
 use Rattle.play_completeness.specs.Streams.{first_reach}

@@ -18,7 +18,7 @@ use Rattle.world.specs.Clients.{writer_step, rest_change}
 use Rattle.world.specs.Primaries.{stamped_by, base_of, session_begun, office_change, writer_asks}
 use Rattle.world.specs.Events.{changed, outcome, after_event, happens, run}
 use Rattle.world_laws.proofs.OfficeSteps.{block_in, keeps-other}
-use Rattle.world_orders.proofs.Kept.{eqb-itself}
+use Rattle.play_completeness.proofs.WorldOrders.Kept.{eqb-itself}
 use Rattle.play_model.specs.Dues.{Queues, asking, acting, own_events, action_of}
 use Rattle.play_completeness.proofs.TurnWorld.{named}
 use Rattle.completing_writers.proofs.Leaving.{Aside, Unsent, OfWriter, aside-of, unsent-of, said-here, happens-own, aside-then}

@@ -30,13 +30,13 @@ use Rattle.world.specs.Parts.{Told, Writing}
 use Rattle.world.specs.Worlds.{World, Change, apply}
 use Rattle.world.specs.Clients.{writing_as, rest_change}
 use Rattle.world.specs.Events.{run}
-use Rattle.world_finals.specs.Finishing.{WriterEnds}
-use Rattle.world_finals.proofs.AllFinal.{all-final}
+use Rattle.play_completeness.specs.WorldFinals.Finishing.{WriterEnds}
+use Rattle.play_completeness.proofs.WorldFinals.AllFinal.{all-final}
 use Rattle.play_model.specs.declared.dues.Due.TheVariants as due
 use Rattle.play_model.specs.States.{PlayState, world_of}
 use Rattle.play_model.specs.Dues.{acting, queue_left, action_of, due_events}
-use Rattle.play_laws.proofs.Commanding.{unmade-fresh}
-use Rattle.play_laws.proofs.Resting.{all-rest}
+use Rattle.play_completeness.proofs.PlayLaws.Commanding.{unmade-fresh}
+use Rattle.play_completeness.proofs.PlayLaws.Resting.{all-rest}
 use Rattle.play_completeness.specs.Complete.{is_done}
 use Rattle.play_completeness.specs.Plain.{IsLeased}
 use Rattle.play_completeness.specs.Links.{IsFinalWith, Links}

@@ -18,9 +18,9 @@ use Rattle.world.specs.Worlds.{World, Dial, Change, still, listed, apply}
 use Rattle.world.specs.Connections.{place_of}
 use Rattle.world.specs.Nodes.{block_of}
 use Rattle.world_laws.specs.Placing.{Placed, IsUndialled}
-use Rattle.world_orders.proofs.Lists.{no-dial-before, dial-here, dialled-here}
-use Rattle.world_acks.specs.Acking.{promised}
-use Rattle.world_writers.specs.Taking.{chain}
+use Rattle.play_completeness.proofs.WorldOrders.Lists.{no-dial-before, dial-here, dialled-here}
+use Rattle.play_completeness.specs.WorldAcks.Acking.{promised}
+use Rattle.play_completeness.specs.WorldWriters.Taking.{chain}
 use Rattle.play_model.specs.Dues.{is_open}
 use Rattle.play_completeness.specs.Streams.{packets_in, acks_in, as_pending, first_reach, reach_of, Leads}
 use Rattle.play_completeness.specs.Links.{awaited, packets_left, acks_left, reach_above, MayTake, IsRequest, WaitsWell, LowerWell, Carries, Link, Links}

@@ -20,7 +20,7 @@ use Rattle.writer_core.specs.declared.phases.Waiting.TheVariants as waiting
 use Rattle.writer_core.specs.Transitions.{is_flushing, empty_due, due_in, sync_formed_as}
 use Rattle.writer_core.proofs.DueLemmas.{choice}
 use Rattle.world.specs.Parts.{Said}
-use Rattle.world_orders.proofs.Lists.{Behind, get-append}
+use Rattle.play_completeness.proofs.WorldOrders.Lists.{Behind, get-append}
 use Rattle.play_completeness.specs.Complete.{IsDone}
 use Rattle.play_completeness.specs.Streams.{as_pending, extent_of, Reach, number_before, reach_after, IsNext}
 use Rattle.play_completeness.specs.Writers.{StreamWell, StreamWaits}

@@ -18,7 +18,7 @@ use Rattle.world_laws.specs.Sessions.{told_stamp}
 use Rattle.world_laws.proofs.Agreements.{office-and-writer-agree}
 use Rattle.world_laws.proofs.AllCarried.{all-carried}
 use Rattle.world_laws.proofs.AllRecorded.{all-recorded}
-use Rattle.world_orders.proofs.Kept.{eqb-itself}
+use Rattle.play_completeness.proofs.WorldOrders.Kept.{eqb-itself}
 use Rattle.play_model.specs.Laws.{IsQuiet}
 use Rattle.completing_writers.proofs.Leaving.{Apart, add-else}
 

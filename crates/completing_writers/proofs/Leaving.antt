@@ -11,8 +11,8 @@ use Rattle.world.specs.Clients.{own_writer}
 use Rattle.world.specs.Events.{changed, outcome, after_event, happens}
 use Rattle.world_laws.proofs.FactTables.{if-each}
 use Rattle.world_laws.proofs.StampGivens.{put-here}
-use Rattle.world_orders.proofs.Kept.{eqb-itself}
-use Rattle.world_orders.proofs.Lists.{dialled-before}
+use Rattle.play_completeness.proofs.WorldOrders.Kept.{eqb-itself}
+use Rattle.play_completeness.proofs.WorldOrders.Lists.{dialled-before}
 use Rattle.play_model.specs.Dues.{acting}
 use Rattle.play_completeness.proofs.TurnWorld.{named, put-same, put-else, no-request}
 use Rattle.play_completeness.proofs.WriterWorld.{at-same}

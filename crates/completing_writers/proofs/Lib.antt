@@ -29,3 +29,6 @@ pub mod RisingGrants
 pub mod Rising
 pub mod Committing
 pub mod Delivering
+pub mod PlayCompleteness
+pub mod WorldLaws
+pub mod WorldOrders

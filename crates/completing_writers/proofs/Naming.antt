@@ -9,7 +9,7 @@ use Rattle.writer_core.specs.declared.intake.Stand.TheVariants as stand
 use Rattle.world.specs.declared.events.TakenCommand.{TakenCommand}
 use Rattle.world.specs.Worlds.{World}
 use Rattle.play_model.specs.States.{PlayState, world_of}
-use Rattle.play_laws.specs.Members.{IsNode, AreAll}
+use Rattle.play_completeness.specs.PlayLaws.Members.{IsNode, AreAll}
 use Rattle.play_completeness.specs.Played.{stand_of, BlockPlayed, Played}
 use Rattle.play_completeness.proofs.Flowing.{get-front}
 use Rattle.completing_writers.specs.Steps.{IsCreate, CommandsWell}

@@ -31,8 +31,8 @@ use Rattle.world_laws.specs.Placing.{Placed}
 use Rattle.world_laws.proofs.OfficeSteps.{block_in}
 use Rattle.world_laws.proofs.PlacedLaws.{all-placed}
 use Rattle.world_laws.proofs.RunLaws.{runs-end}
-use Rattle.world_acks.specs.Acking.{promised}
-use Rattle.world_writers.specs.Taking.{chain}
+use Rattle.play_completeness.specs.WorldAcks.Acking.{promised}
+use Rattle.play_completeness.specs.WorldWriters.Taking.{chain}
 use Rattle.play_model.specs.declared.dues.Due.TheVariants as due
 use Rattle.play_model.specs.States.{PlayState, world_of}
 use Rattle.play_model.specs.Dues.{acting, asking, queue_left, action_of, due_events}

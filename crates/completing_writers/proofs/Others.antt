@@ -23,7 +23,7 @@ use Rattle.play_model.specs.declared.dues.Due.TheVariants as due
 use Rattle.play_model.specs.States.{PlayState, world_of}
 use Rattle.play_model.specs.Dues.{queue_left, action_of, due_events, after_due}
 use Rattle.play_model.specs.Laws.{IsQuiet}
-use Rattle.play_laws.proofs.Untold.{stays-quiet}
+use Rattle.play_completeness.proofs.PlayLaws.Untold.{stays-quiet}
 use Rattle.play_completeness.specs.Plain.{ArePlain}
 use Rattle.play_completeness.specs.Links.{IsFinalWith, Links}
 use Rattle.play_completeness.specs.Writers.{IsUnknown, IsOpened, AreWhole, IsClosed, RestsWell, WantsWell, WellIn, WriterWell, Writers}

@@ -20,7 +20,7 @@ use Rattle.world_laws.proofs.FactTables.{and-left}
 use Rattle.play_model.specs.declared.dues.Due.TheVariants as due
 use Rattle.play_model.specs.States.{PlayState, world_of}
 use Rattle.play_model.specs.Dues.{takes_due, is_due, action_of, after_due}
-use Rattle.play_laws.proofs.Resting.{all-rest}
+use Rattle.play_completeness.proofs.PlayLaws.Resting.{all-rest}
 use Rattle.play_completeness.specs.Writers.{OpensWell, StreamsWell, WellIn, RestsWell}
 use Rattle.play_completeness.specs.Played.{Played}
 use Rattle.completing_writers.specs.Steps.{CommandsWell, is_asking, OwnStepsKeep}

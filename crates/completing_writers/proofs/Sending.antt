@@ -12,8 +12,8 @@ use Rattle.writer_core.specs.declared.records.WriterRecord.{WriterRecord}
 use Rattle.world.specs.Parts.{Message, request, packet, ack, response, read_status, recovery_answer, Marks, Upper, by_writer, Dialled, Lower, idle, writes, serves, recovers, ended_below, Writing}
 use Rattle.world.specs.Worlds.{World}
 use Rattle.world_laws.specs.Placing.{Placed}
-use Rattle.world_orders.specs.Orders.{is_empty, IsMember, IsBelow, Ordered}
-use Rattle.world_orders.proofs.Kept.{eqb-itself}
+use Rattle.play_completeness.specs.WorldOrders.Orders.{is_empty, IsMember, IsBelow, Ordered}
+use Rattle.play_completeness.proofs.WorldOrders.Kept.{eqb-itself}
 use Rattle.play_model.specs.Dues.{is_open}
 use Rattle.play_completeness.specs.Streams.{packets_in, acks_in, as_pending, Flows, reach_of, reach_after, IsNext, Leads}
 use Rattle.play_completeness.specs.Links.{Awaits, pending_below, awaited, packets_left, acks_left, reach_below, reach_above, ReachFits, WritesWell, ActsWell, LowerWell, Carries, Link, Links}

@@ -29,13 +29,13 @@ use Rattle.world.specs.Clients.{writing_as}
 use Rattle.world.specs.Events.{run}
 use Rattle.world_laws.specs.Stamping.{NoLast}
 use Rattle.world_laws.specs.Placing.{IsConn}
-use Rattle.world_orders.specs.Orders.{HasTaken, IsWriterConn}
-use Rattle.world_orders.proofs.AllOrdered.{all-ordered}
-use Rattle.world_orders.proofs.Kept.{sent-elsewhere, sent-here}
+use Rattle.play_completeness.specs.WorldOrders.Orders.{HasTaken, IsWriterConn}
+use Rattle.play_completeness.proofs.WorldOrders.AllOrdered.{all-ordered}
+use Rattle.play_completeness.proofs.WorldOrders.Kept.{sent-elsewhere, sent-here}
 use Rattle.play_model.specs.declared.dues.Due.TheVariants as due
 use Rattle.play_model.specs.States.{PlayState, world_of}
 use Rattle.play_model.specs.Dues.{acting, own_events, queue_left, action_of, due_events}
-use Rattle.play_laws.proofs.Resting.{all-rest}
+use Rattle.play_completeness.proofs.PlayLaws.Resting.{all-rest}
 use Rattle.play_completeness.specs.Streams.{as_pending, Reach, reach_formed, reach_of, reach_after, IsNext}
 use Rattle.play_completeness.specs.Writers.{StreamWell, StreamsWell, WriterWell}
 use Rattle.play_completeness.specs.Played.{DoneSoFar, QueueFits, BlockPlayed, Played}

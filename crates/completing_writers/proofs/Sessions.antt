@@ -23,8 +23,8 @@ use Rattle.world.specs.Worlds.{World, start}
 use Rattle.world.specs.Events.{happens, run}
 use Rattle.world_laws.specs.Stamping.{Givens, none_given, given_in, Recorded}
 use Rattle.world_laws.proofs.AllRecorded.{all-recorded}
-use Rattle.world_finals.specs.Finishing.{Ids, no_ids, ids_by, ids_in, ClosedLength, by_recovery, by_writer, EntryEnds}
-use Rattle.world_finals.proofs.AllFinal.{all-final}
+use Rattle.play_completeness.specs.WorldFinals.Finishing.{Ids, no_ids, ids_by, ids_in, ClosedLength, by_recovery, by_writer, EntryEnds}
+use Rattle.play_completeness.proofs.WorldFinals.AllFinal.{all-final}
 use Rattle.play_model.specs.Laws.{IsQuiet}
 use Rattle.play_completeness.specs.Complete.{bytes_with, bytes_after}
 use Rattle.play_completeness.specs.Plain.{is_plain, ArePlain}

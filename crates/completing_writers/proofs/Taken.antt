@@ -22,7 +22,7 @@ use Rattle.world.specs.Parts.{Writing, Said}
 use Rattle.world.specs.Worlds.{World}
 use Rattle.world.specs.Clients.{did_step, is_formed, ruled, command_bytes, is_empty, takes_step, takes_given, takes_command}
 use Rattle.world_laws.proofs.FactTables.{and-left, and-right}
-use Rattle.world_orders.proofs.Lists.{Behind, get-append}
+use Rattle.play_completeness.proofs.WorldOrders.Lists.{Behind, get-append}
 use Rattle.play_model.specs.Dues.{takes_due, own_due}
 use Rattle.play_completeness.specs.Complete.{is_answered, bytes_with, bytes_after, IsDone, IsGood}
 use Rattle.play_completeness.specs.Played.{IsOf, WaitsLast, DoneSoFar}

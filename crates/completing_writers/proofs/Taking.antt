@@ -23,8 +23,8 @@ use Rattle.world.specs.Events.{run}
 use Rattle.play_model.specs.declared.dues.Due.TheVariants as due
 use Rattle.play_model.specs.States.{PlayState, world_of}
 use Rattle.play_model.specs.Dues.{acting, own_events, queue_left, action_of, due_events}
-use Rattle.play_laws.proofs.Resting.{all-rest}
-use Rattle.play_laws.proofs.Taking.{Admits, admitted-is}
+use Rattle.play_completeness.proofs.PlayLaws.Resting.{all-rest}
+use Rattle.play_completeness.proofs.PlayLaws.Taking.{Admits, admitted-is}
 use Rattle.play_completeness.specs.Complete.{is_answered, bytes_with}
 use Rattle.play_completeness.specs.Writers.{WriterWell}
 use Rattle.play_completeness.specs.Played.{IsOf, DoneSoFar, QueueFits, stand_of, BlockPlayed, Played}

@@ -27,11 +27,11 @@ use Rattle.world.specs.Worlds.{World}
 use Rattle.world.specs.Safe.{Has}
 use Rattle.world.specs.Clients.{writing_as, ruled, command_bytes}
 use Rattle.world_laws.proofs.FactTables.{and-left}
-use Rattle.world_orders.proofs.Lists.{Behind, get-append}
+use Rattle.play_completeness.proofs.WorldOrders.Lists.{Behind, get-append}
 use Rattle.play_model.specs.States.{PlayState, world_of}
 use Rattle.play_model.specs.Dues.{action_of}
-use Rattle.play_laws.proofs.Commanding.{unmade-fresh}
-use Rattle.play_laws.proofs.Resting.{all-rest}
+use Rattle.play_completeness.proofs.PlayLaws.Commanding.{unmade-fresh}
+use Rattle.play_completeness.proofs.PlayLaws.Resting.{all-rest}
 use Rattle.play_completeness.specs.Complete.{is_answered, bytes_with}
 use Rattle.play_completeness.specs.Writers.{StreamWaits, IsUnknown, IsClosed, RestsWell, StreamsWell, WellIn}
 use Rattle.play_completeness.specs.Played.{IsOf, BlockPlayed, Played}

@@ -32,7 +32,7 @@ use Rattle.play_model.specs.declared.dues.Due.{Due}
 use Rattle.play_model.specs.declared.dues.Due.TheVariants as due
 use Rattle.play_model.specs.States.{PlayState, world_of, opened, ordered}
 use Rattle.play_model.specs.Dues.{is_due, action_of, after_due}
-use Rattle.play_laws.specs.Members.{IsNode, AreAll}
+use Rattle.play_completeness.specs.PlayLaws.Members.{IsNode, AreAll}
 use Rattle.play_completeness.specs.Complete.{KeepsMembers, WritesBytes}
 use Rattle.play_completeness.specs.Played.{QueueFits, ordered_queue, Played}
 

@@ -29,3 +29,5 @@ pub fn opened_plays_are_well()
     ensures opened { OpenedAreWell }
     ensures joined { CommandsJoinWell }
 {}
+
+pub use play_completeness::plays_are_safe;

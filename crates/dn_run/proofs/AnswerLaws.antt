@@ -16,20 +16,20 @@ use Rattle.script_lang.specs.declared.report.FlushResult.TheVariants as flush
 use Rattle.script_lang.specs.declared.report.ReportLine.{ReportLine}
 use Rattle.script_lang.specs.declared.report.SetupResult.{SetupResult}
 use Rattle.script_lang.specs.declared.report.SetupResult.TheVariants as setup
-use Rattle.world_acks.proofs.Frame.{has-either}
+use Rattle.whole_play.proofs.WorldAcks.Frame.{has-either}
 use Rattle.world.specs.Parts.{Said}
 use Rattle.world.specs.Safe.{Has}
 use Rattle.world.specs.Worlds.{World}
-use Rattle.world_orders.proofs.Kept.{eqb-itself}
+use Rattle.whole_play.proofs.WorldOrders.Kept.{eqb-itself}
 use Rattle.writer_core.specs.declared.actions.ClientAnswer.{ClientAnswer}
 use Rattle.writer_core.specs.declared.actions.ClientAnswer.TheVariants as client
 use Rattle.writer_core.specs.declared.commands.Command.{Command}
 use Rattle.writer_core.specs.declared.commands.Command.TheVariants as command
-use Rattle.play_completeness.specs.Complete.{line_commands, commands_of, is_granted, is_reached, is_answered, is_done, IsDone, IsGood, AllDone, IsComplete}
-use Rattle.play_model.specs.Lines.{blocks_of}
-use Rattle.play_report.specs.Answers.{told, is_given, answer_line, answer_lines}
-use Rattle.play_report.specs.Reports.{all_answers}
-use Rattle.play_report.specs.Results.{answer_of, setup_result, flush_result}
+use Rattle.whole_play.specs.PlayCompleteness.Complete.{line_commands, commands_of, is_granted, is_reached, is_answered, is_done, IsDone, IsGood, AllDone, IsComplete}
+use Rattle.whole_play.specs.PlayModel.Lines.{blocks_of}
+use Rattle.whole_play.specs.PlayReport.Answers.{told, is_given, answer_line, answer_lines}
+use Rattle.whole_play.specs.PlayReport.Reports.{all_answers}
+use Rattle.whole_play.specs.PlayReport.Results.{answer_of, setup_result, flush_result}
 use Rattle.dn_run.specs.Answers.{says_ok, is_ok_line, Completes}
 
 -- WHAT IS TOLD

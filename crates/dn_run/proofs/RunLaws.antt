@@ -1,8 +1,8 @@
 -- What a run says of its exit, by what was played and how writing its report ended.
 use Rattle.std.proofs.lemmas.Option.{same_Some}
-use Rattle.play_scripts.specs.declared.heads.Head.{Head}
-use Rattle.play_scripts.specs.Fitting.{ScriptFits}
-use Rattle.play_scripts.specs.Heads.{head_of}
+use Rattle.whole_play.specs.PlayScripts.Head.{Head}
+use Rattle.whole_play.specs.PlayScripts.Fitting.{ScriptFits}
+use Rattle.whole_play.specs.PlayScripts.Heads.{head_of}
 use Rattle.std.proofs.Common.{◌≡◌, ◌≤◌, length, take, slice_get, inl, inr, ℕ, List, Option, Some, None, IfSome, Result, Ok, Err, Bool, true, false, refl, sym, ap, subst, ◌∙◌}
 use Rattle.hd_base.specs.declared.files.Files as files
 use Rattle.hd_base.specs.declared.roads.Roads as roads
@@ -12,8 +12,8 @@ use Rattle.hd_base.specs.declared.streams.Source as sources
 use Rattle.hd_base.specs.Faults.{FaultsIncreased}
 use Rattle.hd_base.specs.FileMaps.{FileMap, no_files}
 use Rattle.hd_base.specs.declared.numbers.NodeId.{NodeId}
-use Rattle.node_opening.specs.Emptiness.{IsFirstName, HasFirstFile, ShelfOf}
-use Rattle.node_opening.proofs.ListLemmas.{get_take}
+use Rattle.whole_play.specs.NodeOpening.Emptiness.{IsFirstName, HasFirstFile, ShelfOf}
+use Rattle.whole_play.proofs.NodeOpening.ListLemmas.{get_take}
 use Rattle.script_lang.specs.declared.instructions.ScriptLine.{ScriptLine}
 use Rattle.run_words.specs.declared.faults.UsageRule.{UsageRule}
 use Rattle.whole_play.specs.declared.faults.RunFault.{RunFault}

@@ -1,8 +1,8 @@
 -- The answers of a play that completes, in its report.
 use Rattle.std.specs.Prelude.{ℕ, ◌≡◌, Bool, true, false, List}
-use Rattle.play_completeness.specs.Complete.{commands_of, KeepsMembers, IsComplete}
-use Rattle.play_model.specs.Lines.{blocks_of}
-use Rattle.play_report.specs.Reports.{all_answers}
+use Rattle.whole_play.specs.PlayCompleteness.Complete.{commands_of, KeepsMembers, IsComplete}
+use Rattle.whole_play.specs.PlayModel.Lines.{blocks_of}
+use Rattle.whole_play.specs.PlayReport.Reports.{all_answers}
 use Rattle.script_lang.specs.declared.instructions.ScriptLine.{ScriptLine}
 use Rattle.script_lang.specs.declared.report.Answer.{Answer}
 use Rattle.script_lang.specs.declared.report.Answer.TheVariants as answer

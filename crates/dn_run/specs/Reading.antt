@@ -6,7 +6,7 @@ use Rattle.script_lang.specs.declared.faults.BadKind.{BadKind}
 use Rattle.script_lang.specs.declared.faults.BadKind.TheVariants as kind
 use Rattle.script_lang.specs.declared.instructions.ScriptLine.{ScriptLine}
 use Rattle.script_lang.specs.Grammar.{IsScript, IsBad}
-use Rattle.play_scripts.specs.Unplayed.{first_unplayed, ArePlayed}
+use Rattle.whole_play.specs.PlayScripts.Unplayed.{first_unplayed, ArePlayed}
 use Rattle.dn_run.specs.declared.exits.Exit.{Exit}
 use Rattle.dn_run.specs.declared.exits.Exit.TheVariants as exit
 

@@ -11,13 +11,13 @@ use Rattle.hd_base.specs.declared.streams.Sink as sinks
 use Rattle.hd_base.specs.declared.streams.Source as sources
 use Rattle.script_lang.specs.declared.faults.BadKind.{BadKind}
 use Rattle.script_lang.specs.declared.instructions.ScriptLine.{ScriptLine}
-use Rattle.node_opening.specs.Emptiness.{ShelfRose, HasFirstFile}
-use Rattle.node_opening.specs.Shelves.{EachShelf, LendsNoMore}
+use Rattle.whole_play.specs.NodeOpening.Emptiness.{ShelfRose, HasFirstFile}
+use Rattle.whole_play.specs.NodeOpening.Shelves.{EachShelf, LendsNoMore}
 use Rattle.hd_base.specs.RoadFaults.{RoadsFailed}
-use Rattle.play_model.specs.States.{world_of}
-use Rattle.play_report.specs.declared.expecting.Difference.{Difference}
-use Rattle.play_scripts.specs.declared.heads.Head.{Head}
-use Rattle.play_scripts.specs.Heads.{head_of}
+use Rattle.whole_play.specs.PlayModel.States.{world_of}
+use Rattle.whole_play.specs.PlayReport.Difference.{Difference}
+use Rattle.whole_play.specs.PlayScripts.Head.{Head}
+use Rattle.whole_play.specs.PlayScripts.Heads.{head_of}
 use Rattle.run_words.specs.Calls.{words_of}
 use Rattle.run_words.specs.declared.call.Mode.{Mode}
 use Rattle.run_words.specs.declared.call.Mode.TheVariants as mode
@@ -28,8 +28,8 @@ use Rattle.whole_play.specs.declared.playing.Played.{Played}
 use Rattle.whole_play.specs.Playing.{IsPlayed}
 use Rattle.dn_run.specs.declared.exits.Exit.{Exit}
 use Rattle.dn_run.specs.declared.exits.Exit.TheVariants as exit
-use Rattle.play_scripts.specs.Failures.{HaveNoFailures}
-use Rattle.play_scripts.specs.Reads.{HaveNoReads}
+use Rattle.whole_play.specs.PlayScripts.Failures.{HaveNoFailures}
+use Rattle.whole_play.specs.PlayScripts.Reads.{HaveNoReads}
 use Rattle.world.specs.Safe.{Safe}
 use Rattle.dn_run.specs.Answers.{AppendsKeepMembers, Completes}
 use Rattle.dn_run.specs.Reading.{IsPlayable, IsRefused, IsRefusal, HasRead}

@@ -4,11 +4,10 @@ ghost use Rattle.std.specs.Prelude.{◌≡◌, codes};
 ghost use Rattle.dn_run.specs.Exits.{status_of, name_of};
 
 use hd_base::{FileName, NodeId};
-use play_report::Expected;
 use run_words::{UsageRule, WordsFault};
 use script_lang::{BadKind, ScriptError};
 use std::alloc::AllocError;
-use whole_play::RunFault;
+use whole_play::{Expected, RunFault};
 use whole_streams::ReadFault;
 
 /// How a run ended. After `Done` and `Differs` the whole report was written; after `ReportFault` a front of it; after any

@@ -9,3 +9,4 @@ mod standard;
 pub use exits::Exit;
 pub use running::run;
 pub use standard::{folder_of, folder_shelves, run_in_memory, run_over};
+pub use whole_play::{Expected, new_roads_are_unused};

@@ -6,10 +6,10 @@ ghost use Rattle.whole_streams.specs.Streams.{TookSome};
 
 use crate::exits::Exit;
 use hd_base::Source;
-use play_scripts::first_unplayed;
 use script_lang::{BadKind, MAX_SCRIPT_SIZE, Script, read_script};
 use std::alloc::Global;
 use told_shelves::ToldShelf;
+use whole_play::first_unplayed;
 use whole_streams::read_to_end;
 
 /// Reads a source to its end, and the script in it for so many shelves of this kind. A line that plays don't have over

@@ -2,7 +2,7 @@
 
 ghost use Rattle.std.specs.Prelude.{◌≡◌, ◌+◌, length, map, None, IfOk, IfErr, IfSome};
 ghost use Rattle.std.specs.String.{string_bytes};
-ghost use Rattle.node_opening.specs.Listening.{AreUnused};
+ghost use Rattle.whole_play.specs.NodeOpening.Listening.{AreUnused};
 ghost use Rattle.dn_run.specs.Reading.{Refuses, script_limit};
 ghost use Rattle.dn_run.specs.Runs.{usage_of, UsageFor, UsageIn, ReadsWords, IsBadIn, RefusesIn};
 ghost use Rattle.dn_run.specs.Runs.{HasPlayCause, HasExitCause, HasRun, IsOver, IsUntouched, KeepsShelves, WritesReport};
@@ -11,15 +11,14 @@ ghost use Rattle.whole_streams.specs.Streams.{TookSome};
 
 use crate::exits::Exit;
 use crate::reading::read_lines;
-use completing_lines::plays_complete;
 use fault_ports::CutRoads;
 use hd_base::{Sink, Source};
-use play_completeness::plays_are_safe;
-use play_scripts::{played_lines_are_told, scripts_fit};
 use run_words::{Mode, UsageRule, read_words};
 use std::alloc::Global;
 use told_shelves::ToldShelf;
-use whole_play::{Played, play_script};
+use whole_play::{
+    Played, play_script, played_lines_are_told, plays_are_safe, plays_complete, scripts_fit,
+};
 use whole_streams::{WriteFault, write_all};
 
 /// Runs the script that a source gives over shelves, one for each node, and roads, and writes its report to a sink. The

@@ -1,1 +1,4 @@
 pub mod MemberLemmas
+pub mod AckCodec
+pub mod PacketCodec
+pub mod ReplicaModel

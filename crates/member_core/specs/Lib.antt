@@ -3,3 +3,10 @@ pub mod Acks
 pub mod Members
 pub mod Steps
 pub mod Laws
+pub mod AckCodec
+pub mod HdBase
+pub mod OpHeaders
+pub mod PacketCodec
+pub mod ReplicaCore
+pub mod ReplicaModel
+pub mod RequestRefusals

@@ -8,9 +8,9 @@ use Rattle.op_headers.specs.declared.ops.Op.{Op}
 use Rattle.op_headers.specs.declared.ops.Op.TheVariants as op
 use Rattle.op_headers.specs.Values.{WriteFields}
 use Rattle.road_traffic.specs.Showing.{Net}
-use Rattle.world.specs.Parts.{request}
-use Rattle.world.specs.Worlds.{World}
-use Rattle.world.specs.Connections.{Next, message, the_end}
+use Rattle.world_texts.specs.World.Parts.{request}
+use Rattle.world_texts.specs.World.Worlds.{World}
+use Rattle.world_texts.specs.World.Connections.{Next, message, the_end}
 use Rattle.member_events.specs.declared.beginning.Requested.{Requested}
 use Rattle.member_events.specs.declared.faults.MemberFault.{MemberFault}
 use Rattle.member_events.specs.Beginning.{FollowsRequest, IsFirstRequest, CanTakeFirst, HasFirst, FirstShows, IsFirst, CanBegin, HasRequest, BeginShows}

@@ -13,27 +13,27 @@ use Rattle.hd_base.specs.declared.numbers.Receipt.{Receipt}
 use Rattle.hd_base.specs.declared.roads.Roads as roads
 use Rattle.link_pieces.specs.Roads.{BringsEnd}
 use Rattle.road_traffic.proofs.TrafficLemmas.{same-itself}
-use Rattle.replica_model.specs.declared.events.ReplicaEvent.{ReplicaEvent}
-use Rattle.replica_model.specs.declared.events.ReplicaEvent.TheVariants as replica_event
-use Rattle.replica_files.specs.declared.book_state.BookState.{BookState}
-use Rattle.replica_files.specs.declared.faults.BookFault.{BookFault}
-use Rattle.replica_files.specs.declared.faults.BookFault.TheVariants as fault
-use Rattle.replica_files.specs.Endings.{BookEnds}
-use Rattle.block_receiver.specs.declared.packets.Taken.{Taken}
-use Rattle.block_receiver.specs.declared.packets.Taken.TheVariants as taken
-use Rattle.block_receiver.specs.Packets as receiving
-use Rattle.packet_responder.specs.declared.sendings.Sending.{Sending}
-use Rattle.packet_responder.specs.declared.sendings.Sending.TheVariants as sending
-use Rattle.packet_responder.specs.Sendings as responding
-use Rattle.member_core.specs.declared.effects.Shuts.{Shuts}
-use Rattle.member_core.specs.declared.effects.Shuts.TheVariants as shuts
-use Rattle.member_core.specs.declared.turns.Booked.{Booked}
-use Rattle.member_core.specs.declared.turns.Turn.{Turn}
-use Rattle.member_core.specs.Members.{MemberState}
-use Rattle.pipe_turns.specs.Turning.{Performs, SendsText, SendsAlone, packet_done, sending_done}
-use Rattle.pipe_turns.specs.Acting.{ShutsEnd, FollowsAs, booked_of, texts_of, with_half}
-use Rattle.pipe_turns.specs.declared.turning.Done.{Done}
-use Rattle.pipe_turns.specs.declared.turning.Done.TheVariants as done
+use Rattle.pipe_member.specs.ReplicaModel.ReplicaEvent.{ReplicaEvent}
+use Rattle.pipe_member.specs.ReplicaModel.ReplicaEvent.TheVariants as replica_event
+use Rattle.pipe_member.specs.ReplicaFiles.BookState.{BookState}
+use Rattle.pipe_member.specs.ReplicaFiles.BookFault.{BookFault}
+use Rattle.pipe_member.specs.ReplicaFiles.BookFault.TheVariants as fault
+use Rattle.pipe_member.specs.ReplicaFiles.Endings.{BookEnds}
+use Rattle.pipe_member.specs.BlockReceiver.Taken.{Taken}
+use Rattle.pipe_member.specs.BlockReceiver.Taken.TheVariants as taken
+use Rattle.pipe_member.specs.BlockReceiver.Packets as receiving
+use Rattle.pipe_member.specs.PacketResponder.Sending.{Sending}
+use Rattle.pipe_member.specs.PacketResponder.Sending.TheVariants as sending
+use Rattle.pipe_member.specs.PacketResponder.Sendings as responding
+use Rattle.pipe_member.specs.MemberCore.Shuts.{Shuts}
+use Rattle.pipe_member.specs.MemberCore.Shuts.TheVariants as shuts
+use Rattle.pipe_member.specs.MemberCore.Booked.{Booked}
+use Rattle.pipe_member.specs.MemberCore.Turn.{Turn}
+use Rattle.pipe_member.specs.MemberCore.Members.{MemberState}
+use Rattle.pipe_member.specs.PipeTurns.Turning.{Performs, SendsText, SendsAlone, packet_done, sending_done}
+use Rattle.pipe_member.specs.PipeTurns.Acting.{ShutsEnd, FollowsAs, booked_of, texts_of, with_half}
+use Rattle.pipe_member.specs.PipeTurns.Done.{Done}
+use Rattle.pipe_member.specs.PipeTurns.Done.TheVariants as done
 use Rattle.pipe_member.specs.declared.member.Member.{Member}
 use Rattle.pipe_member.specs.declared.stages.Took.{Took}
 use Rattle.pipe_member.specs.declared.stepped.Stepped.TheVariants as stepped

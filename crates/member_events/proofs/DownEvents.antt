@@ -8,26 +8,26 @@ use Rattle.hd_base.specs.declared.links.LinkOut as link_out
 use Rattle.hd_base.specs.declared.numbers.ConnId.{ConnId}
 use Rattle.hd_base.specs.declared.numbers.NodeId.{NodeId}
 use Rattle.hd_base.specs.declared.roads.Roads as roads
-use Rattle.packet_codec.specs.Packets.{packet_text}
-use Rattle.frame_feed.specs.Kinds.{packets}
-use Rattle.frame_feed.specs.KindLaws.{packets_sound}
-use Rattle.link_messages.specs.Incomings.{IncomingState, nothing_received}
+use Rattle.pipe_member.specs.PacketCodec.Packets.{packet_text}
+use Rattle.pipe_member.specs.FrameFeed.Kinds.{packets}
+use Rattle.pipe_member.specs.FrameFeed.KindLaws.{packets_sound}
+use Rattle.pipe_member.specs.LinkMessages.Incomings.{IncomingState, nothing_received}
 use Rattle.link_pieces.specs.Roads.{names}
 use Rattle.replica_core.specs.declared.refusals.Refusal.{Refusal}
 use Rattle.replica_core.specs.declared.refusals.Refusal.TheVariants as refusal
-use Rattle.replica_model.specs.Rows.{FullReplica}
+use Rattle.pipe_member.specs.ReplicaModel.Rows.{FullReplica}
 use Rattle.replica_core.specs.declared.records.ReplicaRecord.{ReplicaRecord}
-use Rattle.replica_files.specs.declared.book_state.BookState.{BookState}
-use Rattle.replica_files.specs.Books.{replica_of}
-use Rattle.member_core.specs.declared.effects.Shuts.TheVariants as shuts
-use Rattle.member_core.specs.declared.inputs.FromAbove.{FromAbove}
-use Rattle.member_core.specs.declared.inputs.FromAbove.TheVariants as above
-use Rattle.member_core.specs.declared.turns.Booked.{Booked}
-use Rattle.member_core.specs.declared.turns.Booked.TheVariants as booked
-use Rattle.member_core.specs.declared.turns.Turn.{Turn}
-use Rattle.member_core.specs.Members.{MemberState, has_mirror, down_turn, settled, refused_turn}
-use Rattle.member_core.specs.Steps.{Step, step, outcome_of}
-use Rattle.pipe_turns.specs.Acting.{ShutsEnd}
+use Rattle.pipe_member.specs.ReplicaFiles.BookState.{BookState}
+use Rattle.pipe_member.specs.ReplicaFiles.Books.{replica_of}
+use Rattle.pipe_member.specs.MemberCore.Shuts.TheVariants as shuts
+use Rattle.pipe_member.specs.MemberCore.FromAbove.{FromAbove}
+use Rattle.pipe_member.specs.MemberCore.FromAbove.TheVariants as above
+use Rattle.pipe_member.specs.MemberCore.Booked.{Booked}
+use Rattle.pipe_member.specs.MemberCore.Booked.TheVariants as booked
+use Rattle.pipe_member.specs.MemberCore.Turn.{Turn}
+use Rattle.pipe_member.specs.MemberCore.Members.{MemberState, has_mirror, down_turn, settled, refused_turn}
+use Rattle.pipe_member.specs.MemberCore.Steps.{Step, step, outcome_of}
+use Rattle.pipe_member.specs.PipeTurns.Acting.{ShutsEnd}
 use Rattle.pipe_member.specs.declared.member.Member.{Member}
 use Rattle.pipe_member.specs.declared.stages.Looked.{Looked}
 use Rattle.pipe_member.specs.declared.stages.Looked.TheVariants as looked
@@ -50,18 +50,18 @@ use Rattle.road_traffic.specs.Showing.{Net}
 use Rattle.road_traffic.specs.Laws.{Took}
 use Rattle.road_traffic.proofs.CallLemmas.{took-shows}
 use Rattle.road_traffic.proofs.TrafficLemmas.{same-itself}
-use Rattle.world.specs.declared.events.Event.TheVariants as event
-use Rattle.world.specs.Parts.{packet, FullMember, writes, Break}
-use Rattle.world.specs.Worlds.{World, apply}
-use Rattle.world.specs.Connections.{Next, message, the_end, down_taken}
-use Rattle.world.specs.Nodes.{above_of, block_of, replica_at, member_change, pending_at, takes_next}
-use Rattle.world.specs.Events.{outcome, happens}
-use Rattle.world_nets.specs.Nets.{IsNetOf, held_by, inbox_for, is_over}
-use Rattle.world_nets.specs.Drawn.{break_at}
-use Rattle.world_nets.specs.Steps.{taken_net, is_end}
-use Rattle.world_nets.proofs.DrawnLemmas.{down-makes}
-use Rattle.world_nets.proofs.FlushingLemmas.{other-number}
-use Rattle.world_nets.proofs.StepLemmas.{taken-net, taken-over, idle-net}
+use Rattle.world_texts.specs.World.Event.TheVariants as event
+use Rattle.world_texts.specs.World.Parts.{packet, FullMember, writes, Break}
+use Rattle.world_texts.specs.World.Worlds.{World, apply}
+use Rattle.world_texts.specs.World.Connections.{Next, message, the_end, down_taken}
+use Rattle.world_texts.specs.World.Nodes.{above_of, block_of, replica_at, member_change, pending_at, takes_next}
+use Rattle.world_texts.specs.World.Events.{outcome, happens}
+use Rattle.world_texts.specs.WorldNets.Nets.{IsNetOf, held_by, inbox_for, is_over}
+use Rattle.world_texts.specs.WorldNets.Drawn.{break_at}
+use Rattle.world_texts.specs.WorldNets.Steps.{taken_net, is_end}
+use Rattle.world_texts.proofs.WorldNets.DrawnLemmas.{down-makes}
+use Rattle.world_texts.proofs.WorldNets.FlushingLemmas.{other-number}
+use Rattle.world_texts.proofs.WorldNets.StepLemmas.{taken-net, taken-over, idle-net}
 use Rattle.member_events.specs.declared.faults.MemberFault.{MemberFault}
 use Rattle.member_events.specs.Events.{CanDown, DownShows}
 use Rattle.member_events.specs.Faults.{IsRoadFault}

@@ -8,7 +8,7 @@ use Rattle.hd_base.specs.declared.links.LinkIn as link_in
 use Rattle.hd_base.specs.declared.links.LinkOut as link_out
 use Rattle.hd_base.specs.declared.roads.Roads as roads
 use Rattle.link_pieces.specs.Roads.{KeepsInward, ExchangesEnd, BringsEnd, names}
-use Rattle.pipe_turns.specs.Acting.{ShutsEnd}
+use Rattle.pipe_member.specs.PipeTurns.Acting.{ShutsEnd}
 use Rattle.pipe_member.specs.declared.member.Member.{Member}
 use Rattle.pipe_member.specs.Exchanges.{ExchangesMirror, ExchangesBoth, BringsMirror, BringsBoth}
 use Rattle.road_traffic.specs.Traffic.{Traffics}
@@ -16,10 +16,10 @@ use Rattle.road_traffic.specs.Showing.{Net, IsSane, RoadsShow, EndIs, BothShow, 
 use Rattle.road_traffic.specs.Laws.{left_net}
 use Rattle.road_traffic.proofs.ShowingLemmas.{sane-exchanged, sane-lost, exchange-shows}
 use Rattle.road_traffic.proofs.CallLemmas.{sent-shows, quiet-shows, shut-shows, brought-shows}
-use Rattle.world.specs.Worlds.{World, listed}
-use Rattle.world_nets.specs.Nets.{IsEndOf, held_by, is_over}
-use Rattle.world_nets.specs.Ends.{IsElsewhere}
-use Rattle.world_nets.proofs.EndLemmas.{stays-event, exchanged-over}
+use Rattle.world_texts.specs.World.Worlds.{World, listed}
+use Rattle.world_texts.specs.WorldNets.Nets.{IsEndOf, held_by, is_over}
+use Rattle.world_texts.specs.WorldNets.Ends.{IsElsewhere}
+use Rattle.world_texts.proofs.WorldNets.EndLemmas.{stays-event, exchanged-over}
 use Rattle.member_events.proofs.TurnEnds.{HasSaid, EndSends, MirrorSends}
 
 -- ONE END

@@ -6,20 +6,20 @@ use Rattle.hd_base.specs.declared.links.LinkIn as link_in
 use Rattle.hd_base.specs.declared.links.LinkOut as link_out
 use Rattle.hd_base.specs.declared.roads.Roads as roads
 use Rattle.replica_core.specs.declared.ack_queue.TheConstants.{MAX_PENDING}
-use Rattle.replica_model.specs.declared.events.ReplicaEvent.{ReplicaEvent}
-use Rattle.replica_model.specs.declared.events.ReplicaEvent.TheVariants as replica_event
-use Rattle.replica_model.specs.Rows.{FullReplica}
-use Rattle.replica_files.specs.declared.book_state.BookState.{BookState}
-use Rattle.packet_responder.specs.declared.sendings.Sending.{Sending}
-use Rattle.packet_responder.specs.declared.sendings.Sending.TheVariants as sending
-use Rattle.member_core.specs.declared.effects.Shuts.{Shuts}
-use Rattle.member_core.specs.declared.effects.Shuts.TheVariants as shuts
-use Rattle.member_core.specs.declared.turns.Turn.{Turn}
-use Rattle.member_core.specs.Members.{MemberState}
-use Rattle.member_core.specs.Steps.{step}
-use Rattle.pipe_turns.specs.Turning.{CanBook, Performs, SendsAlone, sending_done}
-use Rattle.pipe_turns.specs.declared.turning.Done.{Done}
-use Rattle.pipe_turns.specs.declared.turning.Done.TheVariants as done
+use Rattle.pipe_member.specs.ReplicaModel.ReplicaEvent.{ReplicaEvent}
+use Rattle.pipe_member.specs.ReplicaModel.ReplicaEvent.TheVariants as replica_event
+use Rattle.pipe_member.specs.ReplicaModel.Rows.{FullReplica}
+use Rattle.pipe_member.specs.ReplicaFiles.BookState.{BookState}
+use Rattle.pipe_member.specs.PacketResponder.Sending.{Sending}
+use Rattle.pipe_member.specs.PacketResponder.Sending.TheVariants as sending
+use Rattle.pipe_member.specs.MemberCore.Shuts.{Shuts}
+use Rattle.pipe_member.specs.MemberCore.Shuts.TheVariants as shuts
+use Rattle.pipe_member.specs.MemberCore.Turn.{Turn}
+use Rattle.pipe_member.specs.MemberCore.Members.{MemberState}
+use Rattle.pipe_member.specs.MemberCore.Steps.{step}
+use Rattle.pipe_member.specs.PipeTurns.Turning.{CanBook, Performs, SendsAlone, sending_done}
+use Rattle.pipe_member.specs.PipeTurns.Done.{Done}
+use Rattle.pipe_member.specs.PipeTurns.Done.TheVariants as done
 use Rattle.pipe_member.specs.declared.member.Member.{Member}
 use Rattle.pipe_member.specs.declared.stages.Looked.{Looked}
 use Rattle.pipe_member.specs.declared.stages.Looked.TheVariants as looked

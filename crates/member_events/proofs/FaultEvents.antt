@@ -13,7 +13,7 @@ use Rattle.hd_base.specs.declared.numbers.ConnId.{ConnId}
 use Rattle.hd_base.specs.declared.numbers.Receipt.{Receipt}
 use Rattle.hd_base.specs.declared.roads.Roads as roads
 use Rattle.hd_base.specs.RoadCauses.{RoadCause}
-use Rattle.replica_files.specs.declared.book_state.BookState.{BookState}
+use Rattle.pipe_member.specs.ReplicaFiles.BookState.{BookState}
 use Rattle.pipe_member.specs.declared.member.Member.{Member}
 use Rattle.pipe_member.specs.declared.stepped.Stepped.{Stepped}
 use Rattle.pipe_member.specs.declared.stepped.Stepped.TheVariants as stepped

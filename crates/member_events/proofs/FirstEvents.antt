@@ -7,10 +7,10 @@ use Rattle.hd_base.specs.declared.links.LinkIn as link_in
 use Rattle.hd_base.specs.declared.links.LinkOut as link_out
 use Rattle.hd_base.specs.declared.numbers.ConnId.{ConnId}
 use Rattle.hd_base.specs.declared.roads.Roads as roads
-use Rattle.frame_feed.specs.Kinds.{requests}
-use Rattle.frame_feed.specs.KindLaws.{requests_sound}
-use Rattle.link_messages.specs.declared.incoming.Next as came
-use Rattle.link_messages.specs.declared.incoming.Next.TheVariants as next
+use Rattle.pipe_member.specs.FrameFeed.Kinds.{requests}
+use Rattle.pipe_member.specs.FrameFeed.KindLaws.{requests_sound}
+use Rattle.pipe_member.specs.LinkMessages.Next as came
+use Rattle.pipe_member.specs.LinkMessages.Next.TheVariants as next
 use Rattle.link_pieces.specs.Roads.{names, ExchangesEnd}
 use Rattle.op_headers.specs.declared.ops.Op.{Op}
 use Rattle.pipe_member.specs.declared.stages.Looked.TheVariants as looked
@@ -18,20 +18,20 @@ use Rattle.pipe_member.specs.Looks.{looked_of}
 use Rattle.road_traffic.specs.Showing.{Net}
 use Rattle.road_traffic.specs.Laws.{left_net}
 use Rattle.road_traffic.proofs.TrafficLemmas.{same-itself}
-use Rattle.world.specs.declared.events.Event.{Event}
-use Rattle.world.specs.declared.events.Event.TheVariants as event
-use Rattle.world.specs.Parts.{request, ended_below}
-use Rattle.world.specs.Worlds.{World, apply}
-use Rattle.world.specs.Connections.{Next, message, the_end, down_taken}
-use Rattle.world.specs.Nodes.{closing}
-use Rattle.world.specs.Events.{outcome, happens}
-use Rattle.world_nets.specs.Rows.{text_of}
-use Rattle.world_nets.specs.Nets.{IsNetOf, held_by, inbox_for, is_over}
-use Rattle.world_nets.specs.Drawn.{ComesDown, IsNoRequest}
-use Rattle.world_nets.specs.Steps.{taken_net, is_end}
-use Rattle.world_nets.proofs.DrawnLemmas.{down-makes}
-use Rattle.world_nets.proofs.FlushingLemmas.{closing-sends}
-use Rattle.world_nets.proofs.StepLemmas.{taken-net, taken-over, changed-over, followed}
+use Rattle.world_texts.specs.World.Event.{Event}
+use Rattle.world_texts.specs.World.Event.TheVariants as event
+use Rattle.world_texts.specs.World.Parts.{request, ended_below}
+use Rattle.world_texts.specs.World.Worlds.{World, apply}
+use Rattle.world_texts.specs.World.Connections.{Next, message, the_end, down_taken}
+use Rattle.world_texts.specs.World.Nodes.{closing}
+use Rattle.world_texts.specs.World.Events.{outcome, happens}
+use Rattle.world_texts.specs.WorldNets.Rows.{text_of}
+use Rattle.world_texts.specs.WorldNets.Nets.{IsNetOf, held_by, inbox_for, is_over}
+use Rattle.world_texts.specs.WorldNets.Drawn.{ComesDown, IsNoRequest}
+use Rattle.world_texts.specs.WorldNets.Steps.{taken_net, is_end}
+use Rattle.world_texts.proofs.WorldNets.DrawnLemmas.{down-makes}
+use Rattle.world_texts.proofs.WorldNets.FlushingLemmas.{closing-sends}
+use Rattle.world_texts.proofs.WorldNets.StepLemmas.{taken-net, taken-over, changed-over, followed}
 use Rattle.member_events.specs.declared.beginning.FirstRequest.{FirstRequest}
 use Rattle.member_events.specs.declared.faults.MemberFault.{MemberFault}
 use Rattle.member_events.specs.declared.faults.MemberFault.TheVariants as fault

@@ -12,19 +12,19 @@ use Rattle.hd_base.specs.declared.numbers.Receipt.{Receipt}
 use Rattle.hd_base.specs.declared.roads.Roads as roads
 use Rattle.op_headers.specs.declared.nodes.NodeRef.{NodeRef}
 use Rattle.op_headers.specs.Values.{WriteFields}
-use Rattle.replica_model.specs.Rows.{FullReplica}
-use Rattle.replica_files.specs.declared.book_state.BookState.{BookState}
-use Rattle.request_refusals.specs.declared.refusals.RequestRefusal.{RequestRefusal}
-use Rattle.member_core.specs.declared.effects.Effect.{Effect}
-use Rattle.member_core.specs.declared.effects.SetupAnswer.TheVariants as answer
-use Rattle.member_core.specs.declared.effects.Shuts.{Shuts}
-use Rattle.member_core.specs.declared.effects.Shuts.TheVariants as shuts
-use Rattle.member_core.specs.declared.effects.Upward.TheVariants as upward
-use Rattle.member_core.specs.declared.member.Mirror.TheVariants as mirror
-use Rattle.member_core.specs.Members.{MemberState, set_up, set_up_at, mirror_for, new_member, no_effect, sending}
-use Rattle.member_core.specs.Requests.{closes}
-use Rattle.member_core.specs.Steps.{Setup, refused_request, taken_request}
-use Rattle.pipe_turns.specs.Acting.{texts_of}
+use Rattle.pipe_member.specs.ReplicaModel.Rows.{FullReplica}
+use Rattle.pipe_member.specs.ReplicaFiles.BookState.{BookState}
+use Rattle.pipe_member.specs.RequestRefusals.RequestRefusal.{RequestRefusal}
+use Rattle.pipe_member.specs.MemberCore.Effect.{Effect}
+use Rattle.pipe_member.specs.MemberCore.SetupAnswer.TheVariants as answer
+use Rattle.pipe_member.specs.MemberCore.Shuts.{Shuts}
+use Rattle.pipe_member.specs.MemberCore.Shuts.TheVariants as shuts
+use Rattle.pipe_member.specs.MemberCore.Upward.TheVariants as upward
+use Rattle.pipe_member.specs.MemberCore.Mirror.TheVariants as mirror
+use Rattle.pipe_member.specs.MemberCore.Members.{MemberState, set_up, set_up_at, mirror_for, new_member, no_effect, sending}
+use Rattle.pipe_member.specs.MemberCore.Requests.{closes}
+use Rattle.pipe_member.specs.MemberCore.Steps.{Setup, refused_request, taken_request}
+use Rattle.pipe_member.specs.PipeTurns.Acting.{texts_of}
 use Rattle.pipe_member.specs.declared.member.Member.{Member}
 use Rattle.pipe_member.specs.declared.stages.Stage.{Stage}
 use Rattle.pipe_member.specs.declared.stages.Stage.TheVariants as stage
@@ -37,17 +37,17 @@ use Rattle.pipe_member.specs.SetupSteps.{stage_of}
 use Rattle.pipe_member.specs.Steps.{done_step, stage_after}
 use Rattle.road_traffic.specs.Showing.{Net, no_inbox, exchanged_net}
 use Rattle.road_traffic.specs.Laws.{left_net}
-use Rattle.world.specs.declared.events.Event.{Event}
-use Rattle.world.specs.Parts.{FullMember, writes, ended_below, Break}
-use Rattle.world.specs.Worlds.{World, Change, Dial, listed, apply}
-use Rattle.world.specs.Nodes.{node_of, setup_change, sent_up, lower_of, mirror_conn, member_dials}
-use Rattle.world.specs.Events.{outcome, happens}
-use Rattle.world_nets.specs.Rows.{text_of}
-use Rattle.world_nets.specs.Nets.{IsNetOf, IsEndOf, held_by, is_over}
-use Rattle.world_nets.specs.Flushing.{shuts_above, flush_above}
-use Rattle.world_nets.specs.Steps.{SendsBy}
-use Rattle.world_nets.proofs.FlushingLemmas.{setup-sends}
-use Rattle.world_nets.proofs.StepLemmas.{changed-over, followed, next-conn}
+use Rattle.world_texts.specs.World.Event.{Event}
+use Rattle.world_texts.specs.World.Parts.{FullMember, writes, ended_below, Break}
+use Rattle.world_texts.specs.World.Worlds.{World, Change, Dial, listed, apply}
+use Rattle.world_texts.specs.World.Nodes.{node_of, setup_change, sent_up, lower_of, mirror_conn, member_dials}
+use Rattle.world_texts.specs.World.Events.{outcome, happens}
+use Rattle.world_texts.specs.WorldNets.Rows.{text_of}
+use Rattle.world_texts.specs.WorldNets.Nets.{IsNetOf, IsEndOf, held_by, is_over}
+use Rattle.world_texts.specs.WorldNets.Flushing.{shuts_above, flush_above}
+use Rattle.world_texts.specs.WorldNets.Steps.{SendsBy}
+use Rattle.world_texts.proofs.WorldNets.FlushingLemmas.{setup-sends}
+use Rattle.world_texts.proofs.WorldNets.StepLemmas.{changed-over, followed, next-conn}
 use Rattle.member_events.specs.Joining.{OverJoins, MemberJoins}
 use Rattle.member_events.specs.Showing.{MirrorShows, IsOver}
 use Rattle.member_events.specs.Steps.{IsPlaced}

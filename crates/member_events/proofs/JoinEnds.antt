@@ -20,27 +20,27 @@ use Rattle.proto_fields.specs.Frames.{limit}
 use Rattle.op_headers.specs.declared.ops.Op.TheVariants as op
 use Rattle.op_headers.specs.Requests.{op_message}
 use Rattle.op_headers.specs.Values.{WriteFields}
-use Rattle.node_refs.specs.NodeRefs.{ref_of}
-use Rattle.member_core.specs.declared.requests.TheConstants.{MAX_PORT}
-use Rattle.member_core.specs.Requests.{request_to, request_from, mirror_request}
-use Rattle.pipe_setup.specs.Requests.{request_text, first_port, written}
-use Rattle.world.specs.Parts.{request}
-use Rattle.world.specs.Nodes.{node_of}
-use Rattle.world_nets.specs.Rows.{text_of}
+use Rattle.pipe_member.specs.NodeRefs.NodeRefs.{ref_of}
+use Rattle.pipe_member.specs.MemberCore.TheConstants.{MAX_PORT}
+use Rattle.pipe_member.specs.MemberCore.Requests.{request_to, request_from, mirror_request}
+use Rattle.pipe_member.specs.PipeSetup.Requests.{request_text, first_port, written}
+use Rattle.world_texts.specs.World.Parts.{request}
+use Rattle.world_texts.specs.World.Nodes.{node_of}
+use Rattle.world_texts.specs.WorldNets.Rows.{text_of}
 use Rattle.world_texts.specs.Texts.{SpellsText}
 use Rattle.proto_fields.specs.Framed.{FramesSome}
 use Rattle.link_pieces.specs.Roads.{KeepsRoads, IsDialled}
-use Rattle.member_core.specs.declared.effects.Effect.{Effect}
-use Rattle.member_core.specs.Members.{MemberState, set_up}
-use Rattle.member_core.specs.Steps.{request_step, taken_request}
-use Rattle.pipe_setup.specs.Reaching.{IsUnwritten}
+use Rattle.pipe_member.specs.MemberCore.Effect.{Effect}
+use Rattle.pipe_member.specs.MemberCore.Members.{MemberState, set_up}
+use Rattle.pipe_member.specs.MemberCore.Steps.{request_step, taken_request}
+use Rattle.pipe_member.specs.PipeSetup.Reaching.{IsUnwritten}
 use Rattle.road_traffic.proofs.CallLemmas.{dialled-shows}
 use Rattle.road_traffic.proofs.ShowingLemmas.{roads-same}
-use Rattle.world.specs.Parts.{Message}
-use Rattle.world.specs.Worlds.{apply}
-use Rattle.world.specs.Nodes.{runs_there, mirror_node, setup_change, member_dials}
-use Rattle.world.specs.Events.{outcome}
-use Rattle.world_nets.specs.Drawn.{break_at}
+use Rattle.world_texts.specs.World.Parts.{Message}
+use Rattle.world_texts.specs.World.Worlds.{apply}
+use Rattle.world_texts.specs.World.Nodes.{runs_there, mirror_node, setup_change, member_dials}
+use Rattle.world_texts.specs.World.Events.{outcome}
+use Rattle.world_texts.specs.WorldNets.Drawn.{break_at}
 use Rattle.member_events.proofs.JoinAlone.{IsUnset, asked_is_set}
 use Rattle.member_events.proofs.JoinEvents.{unset, end_at, step_at, taken_at, taken_ends}
 use Rattle.member_events.proofs.JoinFaults.{join_link, join_file, both_keep, lost_risen}
@@ -52,19 +52,19 @@ use Rattle.replica_core.specs.declared.events.Event.{Event}
 use Rattle.replica_core.specs.Transitions.{transition}
 use Rattle.replica_core.specs.Views.{rule_in}
 use Rattle.op_headers.specs.declared.nodes.NodeRef.{NodeRef}
-use Rattle.member_core.specs.Requests.{request_event}
-use Rattle.replica_model.specs.Rows.{FullReplica}
-use Rattle.replica_files.specs.declared.book_state.BookState.{BookState}
-use Rattle.replica_files.specs.Books.{replica_of}
-use Rattle.request_refusals.specs.declared.refusals.RequestRefusal.{RequestRefusal}
-use Rattle.member_core.specs.declared.effects.Shuts.{Shuts}
-use Rattle.pipe_setup.specs.declared.refusals.SetupRefusal.TheVariants as refusal
-use Rattle.pipe_setup.specs.declared.setups.Setup.{Setup}
-use Rattle.pipe_setup.specs.declared.setups.Setup.TheVariants as setup
-use Rattle.pipe_setup.specs.Reaching.{IsAskedBy}
-use Rattle.pipe_setup.specs.Setups.{IsLost, EndsAs, GoesOn, booked_in}
-use Rattle.pipe_setup.proofs.ReachingLemmas.{port_is_one}
-use Rattle.pipe_turns.specs.Acting.{ShutsMirror}
+use Rattle.pipe_member.specs.MemberCore.Requests.{request_event}
+use Rattle.pipe_member.specs.ReplicaModel.Rows.{FullReplica}
+use Rattle.pipe_member.specs.ReplicaFiles.BookState.{BookState}
+use Rattle.pipe_member.specs.ReplicaFiles.Books.{replica_of}
+use Rattle.pipe_member.specs.RequestRefusals.RequestRefusal.{RequestRefusal}
+use Rattle.pipe_member.specs.MemberCore.Shuts.{Shuts}
+use Rattle.pipe_member.specs.PipeSetup.SetupRefusal.TheVariants as refusal
+use Rattle.pipe_member.specs.PipeSetup.Setup.{Setup}
+use Rattle.pipe_member.specs.PipeSetup.Setup.TheVariants as setup
+use Rattle.pipe_member.specs.PipeSetup.Reaching.{IsAskedBy}
+use Rattle.pipe_member.specs.PipeSetup.Setups.{IsLost, EndsAs, GoesOn, booked_in}
+use Rattle.pipe_member.proofs.PipeSetup.ReachingLemmas.{port_is_one}
+use Rattle.pipe_member.specs.PipeTurns.Acting.{ShutsMirror}
 use Rattle.pipe_member.specs.declared.member.Member.{Member}
 use Rattle.pipe_member.specs.declared.stages.Stage.{Stage}
 use Rattle.pipe_member.specs.declared.stages.Stage.TheVariants as stage
@@ -78,10 +78,10 @@ use Rattle.pipe_member.specs.Steps.{done_step}
 use Rattle.pipe_member.specs.Turns.{IsNew}
 use Rattle.pipe_member.proofs.SetupStepLemmas.{awaits}
 use Rattle.road_traffic.specs.Showing.{Net}
-use Rattle.world.specs.declared.events.Event.TheVariants as event
-use Rattle.world.specs.Worlds.{World}
-use Rattle.world.specs.Connections.{down_taken}
-use Rattle.world.specs.Events.{happens}
+use Rattle.world_texts.specs.World.Event.TheVariants as event
+use Rattle.world_texts.specs.World.Worlds.{World}
+use Rattle.world_texts.specs.World.Connections.{down_taken}
+use Rattle.world_texts.specs.World.Events.{happens}
 use Rattle.member_events.specs.declared.beginning.Requested.{Requested}
 use Rattle.member_events.specs.declared.joining.Joined.{Joined}
 use Rattle.member_events.specs.declared.joining.MirrorDial.{MirrorDial}

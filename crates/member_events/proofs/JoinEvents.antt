@@ -6,22 +6,22 @@ use Rattle.hd_base.specs.declared.links.LinkOut as link_out
 use Rattle.hd_base.specs.declared.numbers.ConnId.{ConnId}
 use Rattle.hd_base.specs.declared.numbers.NodeId.{NodeId}
 use Rattle.hd_base.specs.declared.roads.Roads as roads
-use Rattle.replica_model.specs.Rows.{FullReplica}
-use Rattle.replica_files.specs.declared.book_state.BookState.{BookState}
-use Rattle.replica_files.specs.Books.{replica_of}
-use Rattle.member_core.specs.Members.{set_up}
-use Rattle.member_core.specs.Steps.{Setup, request_step, refused_request, taken_request}
+use Rattle.pipe_member.specs.ReplicaModel.Rows.{FullReplica}
+use Rattle.pipe_member.specs.ReplicaFiles.BookState.{BookState}
+use Rattle.pipe_member.specs.ReplicaFiles.Books.{replica_of}
+use Rattle.pipe_member.specs.MemberCore.Members.{set_up}
+use Rattle.pipe_member.specs.MemberCore.Steps.{Setup, request_step, refused_request, taken_request}
 use Rattle.pipe_member.specs.declared.member.Member.{Member}
 use Rattle.pipe_member.specs.declared.stepped.Stepped.{Stepped}
 use Rattle.pipe_member.specs.Turns.{IsNew}
 use Rattle.road_traffic.specs.Showing.{Net}
-use Rattle.world.specs.declared.events.Event.TheVariants as event
-use Rattle.world.specs.Worlds.{World}
-use Rattle.world.specs.Connections.{down_taken}
-use Rattle.world.specs.Nodes.{block_of, replica_at, is_asked}
-use Rattle.world.specs.Events.{happens}
-use Rattle.world_nets.specs.Drawn.{break_at}
-use Rattle.world_nets.specs.Nets.{IsEndOf}
+use Rattle.world_texts.specs.World.Event.TheVariants as event
+use Rattle.world_texts.specs.World.Worlds.{World}
+use Rattle.world_texts.specs.World.Connections.{down_taken}
+use Rattle.world_texts.specs.World.Nodes.{block_of, replica_at, is_asked}
+use Rattle.world_texts.specs.World.Events.{happens}
+use Rattle.world_texts.specs.WorldNets.Drawn.{break_at}
+use Rattle.world_texts.specs.WorldNets.Nets.{IsEndOf}
 use Rattle.member_events.specs.declared.beginning.Requested.{Requested}
 use Rattle.member_events.specs.Joining.{write_next, JoinStands, CanJoin, MemberJoins}
 use Rattle.member_events.specs.Steps.{IsPlaced}

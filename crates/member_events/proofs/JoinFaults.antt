@@ -16,20 +16,20 @@ use Rattle.hd_base.specs.declared.numbers.Receipt.{Receipt}
 use Rattle.hd_base.specs.declared.roads.Roads as roads
 use Rattle.link_pieces.specs.Roads.{BringsEnd}
 use Rattle.replica_core.specs.declared.events.Event.{Event}
-use Rattle.replica_model.specs.declared.events.ReplicaEvent.TheVariants as replica_event
-use Rattle.replica_files.specs.declared.book_state.BookState.{BookState}
-use Rattle.replica_files.specs.declared.faults.BookFault.TheVariants as book_fault
-use Rattle.request_refusals.specs.declared.refusals.RequestRefusal.{RequestRefusal}
-use Rattle.member_core.specs.declared.effects.Shuts.{Shuts}
-use Rattle.member_core.specs.declared.effects.Shuts.TheVariants as shuts
-use Rattle.pipe_setup.specs.declared.refusals.SetupRefusal.TheVariants as refusal
-use Rattle.pipe_setup.specs.declared.setups.Setup.{Setup}
-use Rattle.pipe_setup.specs.declared.setups.Setup.TheVariants as setup
-use Rattle.pipe_setup.specs.Setups.{IsLost, EndsAs, booked_in}
-use Rattle.pipe_turns.specs.declared.turning.Done.{Done}
-use Rattle.pipe_turns.specs.declared.turning.Done.TheVariants as done
-use Rattle.pipe_turns.specs.Acting.{ShutsEnd}
-use Rattle.pipe_turns.specs.Turning.{SendsAlone}
+use Rattle.pipe_member.specs.ReplicaModel.ReplicaEvent.TheVariants as replica_event
+use Rattle.pipe_member.specs.ReplicaFiles.BookState.{BookState}
+use Rattle.pipe_member.specs.ReplicaFiles.BookFault.TheVariants as book_fault
+use Rattle.pipe_member.specs.RequestRefusals.RequestRefusal.{RequestRefusal}
+use Rattle.pipe_member.specs.MemberCore.Shuts.{Shuts}
+use Rattle.pipe_member.specs.MemberCore.Shuts.TheVariants as shuts
+use Rattle.pipe_member.specs.PipeSetup.SetupRefusal.TheVariants as refusal
+use Rattle.pipe_member.specs.PipeSetup.Setup.{Setup}
+use Rattle.pipe_member.specs.PipeSetup.Setup.TheVariants as setup
+use Rattle.pipe_member.specs.PipeSetup.Setups.{IsLost, EndsAs, booked_in}
+use Rattle.pipe_member.specs.PipeTurns.Done.{Done}
+use Rattle.pipe_member.specs.PipeTurns.Done.TheVariants as done
+use Rattle.pipe_member.specs.PipeTurns.Acting.{ShutsEnd}
+use Rattle.pipe_member.specs.PipeTurns.Turning.{SendsAlone}
 use Rattle.pipe_member.specs.declared.member.Member.{Member}
 use Rattle.pipe_member.specs.declared.stages.Stage.{Stage}
 use Rattle.pipe_member.specs.declared.stepped.Stepped.{Stepped}

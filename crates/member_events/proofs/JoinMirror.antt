@@ -13,11 +13,11 @@ use Rattle.link_pieces.specs.Pieces.{SendsPiece}
 use Rattle.link_pieces.specs.Roads.{IsDialled, KeepsInward}
 use Rattle.op_headers.specs.declared.ops.Op.TheVariants as op
 use Rattle.op_headers.specs.Values.{WriteFields}
-use Rattle.replica_model.specs.Rows.{FullReplica}
-use Rattle.replica_files.specs.declared.book_state.BookState.{BookState}
-use Rattle.member_core.specs.declared.member.Mirror.TheVariants as mirror
-use Rattle.member_core.specs.Members.{new_member, no_effect}
-use Rattle.member_core.specs.Steps.{Setup, taken_request}
+use Rattle.pipe_member.specs.ReplicaModel.Rows.{FullReplica}
+use Rattle.pipe_member.specs.ReplicaFiles.BookState.{BookState}
+use Rattle.pipe_member.specs.MemberCore.Mirror.TheVariants as mirror
+use Rattle.pipe_member.specs.MemberCore.Members.{new_member, no_effect}
+use Rattle.pipe_member.specs.MemberCore.Steps.{Setup, taken_request}
 use Rattle.pipe_member.specs.declared.member.Member.{Member}
 use Rattle.pipe_member.specs.declared.stages.Stage.{Stage}
 use Rattle.pipe_member.specs.declared.stages.Stage.TheVariants as stage
@@ -30,21 +30,21 @@ use Rattle.road_traffic.specs.Showing.{Net, IsSane, no_inbox, exchanged_net, dia
 use Rattle.road_traffic.proofs.CallLemmas.{sent-shows, dialled-shows}
 use Rattle.road_traffic.proofs.ShowingLemmas.{roads-accepted}
 use Rattle.road_traffic.proofs.TrafficLemmas.{same-itself}
-use Rattle.world.specs.declared.events.Event.{Event}
-use Rattle.world.specs.Parts.{request, by_member, Break, Dialled}
-use Rattle.world.specs.Worlds.{World, Change, Dial, apply}
-use Rattle.world.specs.Connections.{place_of}
-use Rattle.world.specs.Nodes.{lower_of, setup_change, member_dials, mirror_node}
-use Rattle.world.specs.Events.{outcome, happens}
-use Rattle.world_nets.specs.Rows.{text_of}
-use Rattle.world_nets.specs.Nets.{IsNetOf, IsEndOf, held_by, is_over}
-use Rattle.world_nets.specs.Changes.{Flush}
-use Rattle.world_nets.specs.Dials.{DialsBy, IsAccepted, flushes_with, made_net}
-use Rattle.world_nets.specs.Flushing.{flush_above}
-use Rattle.world_nets.proofs.DialLemmas.{dialled-net, sane-stays, ends-made}
-use Rattle.world_nets.proofs.EndLemmas.{same-end}
-use Rattle.world_nets.proofs.FlushingLemmas.{setup-sends, other-number}
-use Rattle.world_nets.proofs.StepLemmas.{changed-over, followed}
+use Rattle.world_texts.specs.World.Event.{Event}
+use Rattle.world_texts.specs.World.Parts.{request, by_member, Break, Dialled}
+use Rattle.world_texts.specs.World.Worlds.{World, Change, Dial, apply}
+use Rattle.world_texts.specs.World.Connections.{place_of}
+use Rattle.world_texts.specs.World.Nodes.{lower_of, setup_change, member_dials, mirror_node}
+use Rattle.world_texts.specs.World.Events.{outcome, happens}
+use Rattle.world_texts.specs.WorldNets.Rows.{text_of}
+use Rattle.world_texts.specs.WorldNets.Nets.{IsNetOf, IsEndOf, held_by, is_over}
+use Rattle.world_texts.specs.WorldNets.Changes.{Flush}
+use Rattle.world_texts.specs.WorldNets.Dials.{DialsBy, IsAccepted, flushes_with, made_net}
+use Rattle.world_texts.specs.WorldNets.Flushing.{flush_above}
+use Rattle.world_texts.proofs.WorldNets.DialLemmas.{dialled-net, sane-stays, ends-made}
+use Rattle.world_texts.proofs.WorldNets.EndLemmas.{same-end}
+use Rattle.world_texts.proofs.WorldNets.FlushingLemmas.{setup-sends, other-number}
+use Rattle.world_texts.proofs.WorldNets.StepLemmas.{changed-over, followed}
 use Rattle.member_events.specs.Joining.{AcceptsDial, MirrorJoins}
 use Rattle.member_events.specs.Showing.{MirrorShows}
 use Rattle.member_events.proofs.EndLaws.{HeldAt, MirrorAt, RoadsAt, BothPassed, end_held, end_sends, both_pass, end_from}

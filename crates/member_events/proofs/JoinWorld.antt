@@ -6,19 +6,19 @@ use Rattle.hd_base.specs.declared.numbers.ConnId.{ConnId}
 use Rattle.hd_base.specs.declared.roads.TheConstants.{FIRST_PORT}
 use Rattle.op_headers.specs.declared.nodes.NodeRef.{NodeRef}
 use Rattle.op_headers.specs.Values.{WriteFields}
-use Rattle.node_refs.specs.NodeRefs.{ref_of}
-use Rattle.member_core.specs.Requests.{mirror_request}
-use Rattle.member_core.specs.Steps.{Setup, request_step}
-use Rattle.pipe_setup.specs.Requests.{first_port}
-use Rattle.world.specs.declared.events.Event.{Event}
-use Rattle.world.specs.declared.events.Event.TheVariants as event
-use Rattle.world.specs.Parts.{Message, Break, Dialled, idle}
-use Rattle.world.specs.Worlds.{World, Change, Dial, put_at, listed, apply}
-use Rattle.world.specs.Connections.{down_taken, is_served}
-use Rattle.world.specs.Nodes.{node_of, block_of, replica_at, setup_change, sent_up, lower_of, is_asked, runs_there, mirror_node, node_on, mirror_dial}
-use Rattle.world.specs.Events.{outcome, happens}
-use Rattle.world_nets.specs.Drawn.{ComesDown, break_at}
-use Rattle.world_nets.proofs.DrawnLemmas.{down-makes}
+use Rattle.pipe_member.specs.NodeRefs.NodeRefs.{ref_of}
+use Rattle.pipe_member.specs.MemberCore.Requests.{mirror_request}
+use Rattle.pipe_member.specs.MemberCore.Steps.{Setup, request_step}
+use Rattle.pipe_member.specs.PipeSetup.Requests.{first_port}
+use Rattle.world_texts.specs.World.Event.{Event}
+use Rattle.world_texts.specs.World.Event.TheVariants as event
+use Rattle.world_texts.specs.World.Parts.{Message, Break, Dialled, idle}
+use Rattle.world_texts.specs.World.Worlds.{World, Change, Dial, put_at, listed, apply}
+use Rattle.world_texts.specs.World.Connections.{down_taken, is_served}
+use Rattle.world_texts.specs.World.Nodes.{node_of, block_of, replica_at, setup_change, sent_up, lower_of, is_asked, runs_there, mirror_node, node_on, mirror_dial}
+use Rattle.world_texts.specs.World.Events.{outcome, happens}
+use Rattle.world_texts.specs.WorldNets.Drawn.{ComesDown, break_at}
+use Rattle.world_texts.proofs.WorldNets.DrawnLemmas.{down-makes}
 use Rattle.member_events.specs.Joining.{write_next}
 use Rattle.member_events.proofs.WorldLaws.{at_put, at_put_at, sent_here, happened}
 

@@ -9,18 +9,18 @@ use Rattle.hd_base.specs.declared.links.LinkIn as link_in
 use Rattle.hd_base.specs.declared.links.LinkOut as link_out
 use Rattle.hd_base.specs.declared.numbers.ConnId.{ConnId}
 use Rattle.hd_base.specs.declared.roads.Roads as roads
-use Rattle.packet_codec.specs.declared.packets.Packet.{Packet}
-use Rattle.replica_model.specs.declared.events.ReplicaEvent.{ReplicaEvent}
-use Rattle.replica_model.specs.declared.events.ReplicaEvent.TheVariants as replica_event
-use Rattle.replica_files.specs.declared.book_state.BookState.{BookState}
-use Rattle.block_receiver.specs.declared.packets.Taken.{Taken}
-use Rattle.member_core.specs.declared.effects.Shuts.{Shuts}
-use Rattle.member_core.specs.declared.turns.Booked.{Booked}
-use Rattle.member_core.specs.declared.turns.Turn.{Turn}
-use Rattle.member_core.specs.Members.{MemberState, hears, ready_turn_by}
-use Rattle.pipe_turns.specs.Turning.{Performs, PassesEnd}
-use Rattle.pipe_turns.specs.Acting.{ShutsEnd, ShutsMirror, FollowsAs, booked_of, texts_of, with_half}
-use Rattle.pipe_turns.specs.declared.turning.Done.{Done}
+use Rattle.pipe_member.specs.PacketCodec.Packet.{Packet}
+use Rattle.pipe_member.specs.ReplicaModel.ReplicaEvent.{ReplicaEvent}
+use Rattle.pipe_member.specs.ReplicaModel.ReplicaEvent.TheVariants as replica_event
+use Rattle.pipe_member.specs.ReplicaFiles.BookState.{BookState}
+use Rattle.pipe_member.specs.BlockReceiver.Taken.{Taken}
+use Rattle.pipe_member.specs.MemberCore.Shuts.{Shuts}
+use Rattle.pipe_member.specs.MemberCore.Booked.{Booked}
+use Rattle.pipe_member.specs.MemberCore.Turn.{Turn}
+use Rattle.pipe_member.specs.MemberCore.Members.{MemberState, hears, ready_turn_by}
+use Rattle.pipe_member.specs.PipeTurns.Turning.{Performs, PassesEnd}
+use Rattle.pipe_member.specs.PipeTurns.Acting.{ShutsEnd, ShutsMirror, FollowsAs, booked_of, texts_of, with_half}
+use Rattle.pipe_member.specs.PipeTurns.Done.{Done}
 use Rattle.pipe_member.specs.declared.member.Member.{Member}
 use Rattle.pipe_member.specs.declared.stages.Looked.{Looked}
 use Rattle.pipe_member.specs.declared.stages.Looked.TheVariants as looked
@@ -34,7 +34,7 @@ use Rattle.pipe_member.specs.Events.{Stays, TurnsIf, IsReady, TakesDown, LooksUp
 use Rattle.pipe_member.specs.Exchanges.{AreKnown, ExchangesMirror, ExchangesBoth}
 use Rattle.pipe_member.specs.Steps.{is_failed, is_asked, finds_no_memory}
 use Rattle.pipe_member.specs.Turns.{Turns}
-use Rattle.member_core.specs.declared.inputs.FromBelow.{FromBelow}
+use Rattle.pipe_member.specs.MemberCore.FromBelow.{FromBelow}
 
 -- ENDS OF THE SAME CONNECTIONS
 

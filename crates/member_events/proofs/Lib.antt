@@ -25,3 +25,6 @@ pub mod JoinMirror
 pub mod JoinEvents
 pub mod JoinFaults
 pub mod JoinEnds
+pub mod PipeMember
+pub mod ReplicaFiles
+pub mod WorldNets

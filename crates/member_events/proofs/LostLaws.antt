@@ -7,27 +7,27 @@ use Rattle.hd_base.specs.declared.files.Files as files
 use Rattle.hd_base.specs.declared.links.LinkIn as link_in
 use Rattle.hd_base.specs.declared.links.LinkOut as link_out
 use Rattle.hd_base.specs.declared.numbers.Receipt.{Receipt}
-use Rattle.packet_codec.specs.declared.packets.Packet.{Packet}
-use Rattle.frame_feed.specs.Kinds.{Kind, acks, responses, packets}
-use Rattle.link_messages.specs.declared.incoming.Next.{Next}
-use Rattle.link_messages.specs.declared.incoming.Next.TheVariants as came
-use Rattle.link_messages.specs.Incomings.{IncomingState, Comes}
-use Rattle.replica_model.specs.declared.events.ReplicaEvent.{ReplicaEvent}
-use Rattle.replica_model.specs.declared.events.ReplicaEvent.TheVariants as replica_event
-use Rattle.replica_files.specs.declared.book_state.BookState.{BookState}
-use Rattle.block_receiver.specs.declared.packets.Taken.{Taken}
-use Rattle.block_receiver.specs.declared.packets.Taken.TheVariants as taken
-use Rattle.packet_responder.specs.declared.sendings.Sending.{Sending}
-use Rattle.packet_responder.specs.declared.sendings.Sending.TheVariants as sending
-use Rattle.member_core.specs.declared.effects.Shuts.{Shuts}
-use Rattle.member_core.specs.declared.inputs.FromBelow.{FromBelow}
-use Rattle.member_core.specs.declared.turns.Booked.{Booked}
-use Rattle.member_core.specs.declared.turns.Turn.{Turn}
-use Rattle.member_core.specs.Members.{MemberState}
-use Rattle.pipe_turns.specs.Turning.{Performs, PassesEnd, SendsAlone, packet_done, sending_done}
-use Rattle.pipe_turns.specs.Acting.{ShutsEnd, ShutsMirror, FollowsAs, booked_of, texts_of, with_half}
-use Rattle.pipe_turns.specs.declared.turning.Done.{Done}
-use Rattle.pipe_turns.specs.declared.turning.Done.TheVariants as done
+use Rattle.pipe_member.specs.PacketCodec.Packet.{Packet}
+use Rattle.pipe_member.specs.FrameFeed.Kinds.{Kind, acks, responses, packets}
+use Rattle.pipe_member.specs.LinkMessages.Next.{Next}
+use Rattle.pipe_member.specs.LinkMessages.Next.TheVariants as came
+use Rattle.pipe_member.specs.LinkMessages.Incomings.{IncomingState, Comes}
+use Rattle.pipe_member.specs.ReplicaModel.ReplicaEvent.{ReplicaEvent}
+use Rattle.pipe_member.specs.ReplicaModel.ReplicaEvent.TheVariants as replica_event
+use Rattle.pipe_member.specs.ReplicaFiles.BookState.{BookState}
+use Rattle.pipe_member.specs.BlockReceiver.Taken.{Taken}
+use Rattle.pipe_member.specs.BlockReceiver.Taken.TheVariants as taken
+use Rattle.pipe_member.specs.PacketResponder.Sending.{Sending}
+use Rattle.pipe_member.specs.PacketResponder.Sending.TheVariants as sending
+use Rattle.pipe_member.specs.MemberCore.Shuts.{Shuts}
+use Rattle.pipe_member.specs.MemberCore.FromBelow.{FromBelow}
+use Rattle.pipe_member.specs.MemberCore.Booked.{Booked}
+use Rattle.pipe_member.specs.MemberCore.Turn.{Turn}
+use Rattle.pipe_member.specs.MemberCore.Members.{MemberState}
+use Rattle.pipe_member.specs.PipeTurns.Turning.{Performs, PassesEnd, SendsAlone, packet_done, sending_done}
+use Rattle.pipe_member.specs.PipeTurns.Acting.{ShutsEnd, ShutsMirror, FollowsAs, booked_of, texts_of, with_half}
+use Rattle.pipe_member.specs.PipeTurns.Done.{Done}
+use Rattle.pipe_member.specs.PipeTurns.Done.TheVariants as done
 use Rattle.pipe_member.specs.declared.member.Member.{Member}
 use Rattle.pipe_member.specs.declared.stages.Looked.{Looked}
 use Rattle.pipe_member.specs.declared.stages.Looked.TheVariants as looked

@@ -6,12 +6,12 @@ use Rattle.hd_base.specs.declared.numbers.NodeId.{NodeId}
 use Rattle.hd_base.specs.declared.links.LinkIn as link_in
 use Rattle.hd_base.specs.declared.links.LinkOut as link_out
 use Rattle.hd_base.specs.declared.roads.Roads as roads
-use Rattle.link_messages.specs.Incomings.{IncomingState, nothing_received}
+use Rattle.pipe_member.specs.LinkMessages.Incomings.{IncomingState, nothing_received}
 use Rattle.link_pieces.specs.Roads.{names}
-use Rattle.replica_files.specs.declared.book_state.BookState.{BookState}
-use Rattle.replica_files.specs.Books.{replica_of}
-use Rattle.member_core.specs.declared.effects.Shuts.TheVariants as shuts
-use Rattle.member_core.specs.Steps.{Step}
+use Rattle.pipe_member.specs.ReplicaFiles.BookState.{BookState}
+use Rattle.pipe_member.specs.ReplicaFiles.Books.{replica_of}
+use Rattle.pipe_member.specs.MemberCore.Shuts.TheVariants as shuts
+use Rattle.pipe_member.specs.MemberCore.Steps.{Step}
 use Rattle.pipe_member.specs.declared.member.Member.{Member}
 use Rattle.pipe_member.specs.declared.stages.Stage.{Stage}
 use Rattle.pipe_member.specs.declared.stages.Stage.TheVariants as stage
@@ -22,17 +22,17 @@ use Rattle.pipe_member.specs.Exchanges.{ExchangesBoth, BringsBoth}
 use Rattle.pipe_member.specs.Steps.{stage_after}
 use Rattle.road_traffic.specs.Showing.{Net, exchanged_net}
 use Rattle.road_traffic.specs.Laws.{left_net}
-use Rattle.world.specs.declared.events.Event.{Event}
-use Rattle.world.specs.Parts.{FullMember, Break}
-use Rattle.world.specs.Worlds.{World, Change, apply}
-use Rattle.world.specs.Connections.{Next}
-use Rattle.world.specs.Nodes.{node_of, member_change, sent_up, passed}
-use Rattle.world.specs.Events.{outcome, happens}
-use Rattle.world_nets.specs.Rows.{text_of}
-use Rattle.world_nets.specs.Nets.{IsNetOf, held_by, is_over}
-use Rattle.world_nets.specs.Flushing.{shuts_above, shuts_below}
-use Rattle.world_nets.proofs.FlushingLemmas.{member-sends}
-use Rattle.world_nets.proofs.StepLemmas.{changed-over, followed}
+use Rattle.world_texts.specs.World.Event.{Event}
+use Rattle.world_texts.specs.World.Parts.{FullMember, Break}
+use Rattle.world_texts.specs.World.Worlds.{World, Change, apply}
+use Rattle.world_texts.specs.World.Connections.{Next}
+use Rattle.world_texts.specs.World.Nodes.{node_of, member_change, sent_up, passed}
+use Rattle.world_texts.specs.World.Events.{outcome, happens}
+use Rattle.world_texts.specs.WorldNets.Rows.{text_of}
+use Rattle.world_texts.specs.WorldNets.Nets.{IsNetOf, held_by, is_over}
+use Rattle.world_texts.specs.WorldNets.Flushing.{shuts_above, shuts_below}
+use Rattle.world_texts.proofs.WorldNets.FlushingLemmas.{member-sends}
+use Rattle.world_texts.proofs.WorldNets.StepLemmas.{changed-over, followed}
 use Rattle.member_events.specs.Showing.{MirrorShows, NoneReceived, both_act, OthersStay, MemberLeft}
 use Rattle.member_events.proofs.EndLaws.{HeldAt, MirrorAt, RoadsAt, mirror_net, mirror_inbox, mirror_left, both_pass, both_brought, end_from}
 use Rattle.member_events.proofs.NetLaws.{passed_net, brought_net, other_passed, other_left}

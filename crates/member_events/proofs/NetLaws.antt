@@ -7,18 +7,18 @@ use Rattle.hd_base.specs.declared.roads.Roads as roads
 use Rattle.hd_base.specs.declared.roads.TheConstants.{FIRST_PORT}
 use Rattle.road_traffic.specs.Showing.{Net, exchanged_net}
 use Rattle.road_traffic.specs.Laws.{left_net}
-use Rattle.world.specs.Parts.{Message}
-use Rattle.world.specs.Worlds.{World, Change, apply}
-use Rattle.world_nets.specs.Rows.{Row, Rows, rows_of, text_of, rows_flushed}
-use Rattle.world_nets.specs.Nets.{IsRow, AreRows, IsNetOf, IsEndOf, is_over}
-use Rattle.world_nets.specs.Changes.{Flush}
-use Rattle.world_nets.specs.Ends.{IsElsewhere, flushed_all}
-use Rattle.world_nets.specs.Steps.{SendsBy}
-use Rattle.world_nets.specs.Flushing.{lower_flush, upper_flushes}
-use Rattle.world_nets.proofs.RowLemmas.{flushed, lost}
-use Rattle.world_nets.proofs.FlushLemmas.{rows_after, after-is}
-use Rattle.world_nets.proofs.StepLemmas.{rows-by, changed-net}
-use Rattle.world_nets.proofs.EndLemmas.{stays}
+use Rattle.world_texts.specs.World.Parts.{Message}
+use Rattle.world_texts.specs.World.Worlds.{World, Change, apply}
+use Rattle.world_texts.specs.WorldNets.Rows.{Row, Rows, rows_of, text_of, rows_flushed}
+use Rattle.world_texts.specs.WorldNets.Nets.{IsRow, AreRows, IsNetOf, IsEndOf, is_over}
+use Rattle.world_texts.specs.WorldNets.Changes.{Flush}
+use Rattle.world_texts.specs.WorldNets.Ends.{IsElsewhere, flushed_all}
+use Rattle.world_texts.specs.WorldNets.Steps.{SendsBy}
+use Rattle.world_texts.specs.WorldNets.Flushing.{lower_flush, upper_flushes}
+use Rattle.world_texts.proofs.WorldNets.RowLemmas.{flushed, lost}
+use Rattle.world_texts.proofs.WorldNets.FlushLemmas.{rows_after, after-is}
+use Rattle.world_texts.proofs.WorldNets.StepLemmas.{rows-by, changed-net}
+use Rattle.world_texts.proofs.WorldNets.EndLemmas.{stays}
 use Rattle.member_events.specs.Showing.{IsNoneOf}
 use Rattle.member_events.proofs.EndLaws.{mirror_net, mirror_left}
 

@@ -6,14 +6,14 @@ use Rattle.hd_base.specs.declared.links.LinkIn as link_in
 use Rattle.hd_base.specs.declared.links.LinkOut as link_out
 use Rattle.hd_base.specs.declared.numbers.ConnId.{ConnId}
 use Rattle.hd_base.specs.declared.roads.Roads as roads
-use Rattle.link_messages.specs.Incomings.{IncomingState, nothing_received}
-use Rattle.replica_model.specs.Rows.{FullReplica}
-use Rattle.replica_files.specs.declared.book_state.BookState.{BookState}
-use Rattle.replica_files.specs.Books.{replica_of}
-use Rattle.member_core.specs.declared.turns.Turn.{Turn}
-use Rattle.member_core.specs.Members.{MemberState, ready_turn_by}
-use Rattle.member_core.specs.Steps.{Step, step}
-use Rattle.pipe_turns.specs.Acting.{texts_of}
+use Rattle.pipe_member.specs.LinkMessages.Incomings.{IncomingState, nothing_received}
+use Rattle.pipe_member.specs.ReplicaModel.Rows.{FullReplica}
+use Rattle.pipe_member.specs.ReplicaFiles.BookState.{BookState}
+use Rattle.pipe_member.specs.ReplicaFiles.Books.{replica_of}
+use Rattle.pipe_member.specs.MemberCore.Turn.{Turn}
+use Rattle.pipe_member.specs.MemberCore.Members.{MemberState, ready_turn_by}
+use Rattle.pipe_member.specs.MemberCore.Steps.{Step, step}
+use Rattle.pipe_member.specs.PipeTurns.Acting.{texts_of}
 use Rattle.pipe_member.specs.declared.member.Member.{Member}
 use Rattle.pipe_member.specs.declared.stages.Stage.{Stage}
 use Rattle.pipe_member.specs.declared.stages.Took.TheVariants as took
@@ -27,16 +27,16 @@ use Rattle.pipe_member.proofs.EventStepLemmas.{readies_step}
 use Rattle.pipe_member.proofs.RuledTurns.{IsQuiet, readies, acting, ready_ruled}
 use Rattle.pipe_member.proofs.SteppingLemmas.{turns_step}
 use Rattle.road_traffic.specs.Showing.{Net}
-use Rattle.world.specs.declared.events.Event.TheVariants as event
-use Rattle.world.specs.Parts.{FullMember, writes, Break}
-use Rattle.world.specs.Worlds.{World, apply, listed}
-use Rattle.world.specs.Connections.{the_end}
-use Rattle.world.specs.Nodes.{block_of, replica_at, member_change}
-use Rattle.world.specs.Events.{outcome, happens}
-use Rattle.world_nets.specs.Rows.{text_of}
-use Rattle.world_nets.specs.Nets.{held_by, is_over}
-use Rattle.world_nets.specs.Drawn.{break_at}
-use Rattle.world_nets.proofs.DrawnLemmas.{ready-makes}
+use Rattle.world_texts.specs.World.Event.TheVariants as event
+use Rattle.world_texts.specs.World.Parts.{FullMember, writes, Break}
+use Rattle.world_texts.specs.World.Worlds.{World, apply, listed}
+use Rattle.world_texts.specs.World.Connections.{the_end}
+use Rattle.world_texts.specs.World.Nodes.{block_of, replica_at, member_change}
+use Rattle.world_texts.specs.World.Events.{outcome, happens}
+use Rattle.world_texts.specs.WorldNets.Rows.{text_of}
+use Rattle.world_texts.specs.WorldNets.Nets.{held_by, is_over}
+use Rattle.world_texts.specs.WorldNets.Drawn.{break_at}
+use Rattle.world_texts.proofs.WorldNets.DrawnLemmas.{ready-makes}
 use Rattle.member_events.specs.declared.faults.MemberFault.{MemberFault}
 use Rattle.member_events.specs.Events.{CanReady, ReadyShows}
 use Rattle.member_events.specs.Showing.{MirrorShows, NoneReceived, IsLater, MemberStands, MemberLeft}

@@ -6,16 +6,16 @@ use Rattle.hd_base.specs.declared.links.LinkOut as link_out
 use Rattle.hd_base.specs.declared.numbers.NodeId.{NodeId}
 use Rattle.hd_base.specs.declared.numbers.Receipt.{Receipt}
 use Rattle.hd_base.specs.declared.roads.Roads as roads
-use Rattle.link_messages.specs.Incomings.{nothing_received}
+use Rattle.pipe_member.specs.LinkMessages.Incomings.{nothing_received}
 use Rattle.op_headers.specs.Values.{WriteFields}
-use Rattle.replica_model.specs.Rows.{FullReplica}
-use Rattle.replica_files.specs.declared.book_state.BookState.{BookState}
-use Rattle.replica_files.specs.Books.{replica_of}
-use Rattle.member_core.specs.declared.effects.Shuts.{Shuts}
-use Rattle.member_core.specs.declared.effects.Shuts.TheVariants as shuts
-use Rattle.member_core.specs.declared.turns.Turn.{Turn}
-use Rattle.member_core.specs.Steps.{Step, step}
-use Rattle.pipe_turns.specs.Acting.{texts_of}
+use Rattle.pipe_member.specs.ReplicaModel.Rows.{FullReplica}
+use Rattle.pipe_member.specs.ReplicaFiles.BookState.{BookState}
+use Rattle.pipe_member.specs.ReplicaFiles.Books.{replica_of}
+use Rattle.pipe_member.specs.MemberCore.Shuts.{Shuts}
+use Rattle.pipe_member.specs.MemberCore.Shuts.TheVariants as shuts
+use Rattle.pipe_member.specs.MemberCore.Turn.{Turn}
+use Rattle.pipe_member.specs.MemberCore.Steps.{Step, step}
+use Rattle.pipe_member.specs.PipeTurns.Acting.{texts_of}
 use Rattle.pipe_member.specs.declared.member.Member.{Member}
 use Rattle.pipe_member.specs.declared.stages.Took.{Took}
 use Rattle.pipe_member.specs.declared.stepped.Stepped.{Stepped}
@@ -25,15 +25,15 @@ use Rattle.pipe_member.specs.Stepping.{IsStep, passed_text}
 use Rattle.pipe_member.specs.Steps.{done_step}
 use Rattle.pipe_member.specs.Turns.{Turns}
 use Rattle.road_traffic.specs.Showing.{Net}
-use Rattle.world.specs.declared.events.Event.{Event}
-use Rattle.world.specs.Parts.{FullMember, Break}
-use Rattle.world.specs.Worlds.{World, apply, listed}
-use Rattle.world.specs.Connections.{Next}
-use Rattle.world.specs.Nodes.{node_of, block_of, replica_at, member_change, sent_up, passed}
-use Rattle.world.specs.Events.{outcome, happens}
-use Rattle.world_nets.specs.Rows.{text_of}
-use Rattle.world_nets.specs.Nets.{IsNetOf, held_by, is_over}
-use Rattle.world_nets.specs.Flushing.{shuts_above, shuts_below}
+use Rattle.world_texts.specs.World.Event.{Event}
+use Rattle.world_texts.specs.World.Parts.{FullMember, Break}
+use Rattle.world_texts.specs.World.Worlds.{World, apply, listed}
+use Rattle.world_texts.specs.World.Connections.{Next}
+use Rattle.world_texts.specs.World.Nodes.{node_of, block_of, replica_at, member_change, sent_up, passed}
+use Rattle.world_texts.specs.World.Events.{outcome, happens}
+use Rattle.world_texts.specs.WorldNets.Rows.{text_of}
+use Rattle.world_texts.specs.WorldNets.Nets.{IsNetOf, held_by, is_over}
+use Rattle.world_texts.specs.WorldNets.Flushing.{shuts_above, shuts_below}
 use Rattle.member_events.specs.Steps.{IsPlaced}
 use Rattle.member_events.specs.Showing.{OthersStay, MemberLeft}
 use Rattle.member_events.proofs.TurnEnds.{IsFine, TurnSends}

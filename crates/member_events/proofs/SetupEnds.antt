@@ -15,29 +15,29 @@ use Rattle.replica_core.specs.declared.records.ReplicaRecord.{ReplicaRecord}
 use Rattle.replica_core.specs.declared.refusals.Refusal.{Refusal}
 use Rattle.replica_core.specs.Transitions.{transition}
 use Rattle.replica_core.specs.Views.{rule_in}
-use Rattle.replica_model.specs.declared.events.ReplicaEvent.TheVariants as replica_event
-use Rattle.replica_model.specs.Rows.{FullReplica, row}
-use Rattle.replica_files.specs.declared.book_state.BookState.{BookState}
-use Rattle.replica_files.specs.declared.faults.BookFault.TheVariants as book_fault
-use Rattle.replica_files.specs.Books.{replica_of}
-use Rattle.replica_files.specs.Endings.{BookEnds}
-use Rattle.request_refusals.specs.declared.refusals.RequestRefusal.{RequestRefusal}
-use Rattle.request_refusals.specs.declared.refusals.RequestRefusal.TheVariants as request
-use Rattle.member_core.specs.declared.effects.Effect.{Effect}
-use Rattle.member_core.specs.declared.effects.Shuts.{Shuts}
-use Rattle.member_core.specs.declared.effects.Shuts.TheVariants as shuts
-use Rattle.member_core.specs.declared.effects.Upward.{Upward}
-use Rattle.member_core.specs.Members.{MemberState, set_up, set_up_at, mirror_for, refused_setup}
-use Rattle.member_core.specs.Requests.{request_event}
-use Rattle.member_core.specs.Steps.{Setup, request_at, request_step, refused_request, taken_request}
-use Rattle.pipe_setup.specs.declared.refusals.SetupRefusal.TheVariants as refusal
-use Rattle.pipe_setup.specs.declared.setups.Setup.TheVariants as setup
-use Rattle.pipe_setup.specs.Setups.{HasTarget}
-use Rattle.pipe_setup.proofs.ReachingLemmas.{quiet_then_sends}
-use Rattle.pipe_turns.specs.declared.turning.Done.{Done}
-use Rattle.pipe_turns.specs.declared.turning.Done.TheVariants as done
-use Rattle.pipe_turns.specs.Acting.{ShutsEnd, texts_of, shuts_up, with_half}
-use Rattle.pipe_turns.specs.Turning.{SendsAlone}
+use Rattle.pipe_member.specs.ReplicaModel.ReplicaEvent.TheVariants as replica_event
+use Rattle.pipe_member.specs.ReplicaModel.Rows.{FullReplica, row}
+use Rattle.pipe_member.specs.ReplicaFiles.BookState.{BookState}
+use Rattle.pipe_member.specs.ReplicaFiles.BookFault.TheVariants as book_fault
+use Rattle.pipe_member.specs.ReplicaFiles.Books.{replica_of}
+use Rattle.pipe_member.specs.ReplicaFiles.Endings.{BookEnds}
+use Rattle.pipe_member.specs.RequestRefusals.RequestRefusal.{RequestRefusal}
+use Rattle.pipe_member.specs.RequestRefusals.RequestRefusal.TheVariants as request
+use Rattle.pipe_member.specs.MemberCore.Effect.{Effect}
+use Rattle.pipe_member.specs.MemberCore.Shuts.{Shuts}
+use Rattle.pipe_member.specs.MemberCore.Shuts.TheVariants as shuts
+use Rattle.pipe_member.specs.MemberCore.Upward.{Upward}
+use Rattle.pipe_member.specs.MemberCore.Members.{MemberState, set_up, set_up_at, mirror_for, refused_setup}
+use Rattle.pipe_member.specs.MemberCore.Requests.{request_event}
+use Rattle.pipe_member.specs.MemberCore.Steps.{Setup, request_at, request_step, refused_request, taken_request}
+use Rattle.pipe_member.specs.PipeSetup.SetupRefusal.TheVariants as refusal
+use Rattle.pipe_member.specs.PipeSetup.Setup.TheVariants as setup
+use Rattle.pipe_member.specs.PipeSetup.Setups.{HasTarget}
+use Rattle.pipe_member.proofs.PipeSetup.ReachingLemmas.{quiet_then_sends}
+use Rattle.pipe_member.specs.PipeTurns.Done.{Done}
+use Rattle.pipe_member.specs.PipeTurns.Done.TheVariants as done
+use Rattle.pipe_member.specs.PipeTurns.Acting.{ShutsEnd, texts_of, shuts_up, with_half}
+use Rattle.pipe_member.specs.PipeTurns.Turning.{SendsAlone}
 use Rattle.pipe_member.specs.declared.member.Member.{Member}
 use Rattle.pipe_member.specs.declared.stages.Stage.{Stage}
 use Rattle.pipe_member.specs.declared.stages.Stage.TheVariants as stage
@@ -48,7 +48,7 @@ use Rattle.pipe_member.specs.Setups.{Says, Opens, Waits, Refuses, RefusalEnds, F
 use Rattle.pipe_member.specs.SetupSteps.{was_answered, setup_by, stage_of, IsSetup, IsNewRequest}
 use Rattle.pipe_member.specs.Turns.{IsSameMember}
 use Rattle.pipe_member.proofs.SetupStepLemmas.{unrefused_by, refused_as, refused_none, refused_some, awaits, leads_to, setups_step, refusals_step}
-use Rattle.world_nets.specs.Flushing.{shuts_above}
+use Rattle.world_texts.specs.WorldNets.Flushing.{shuts_above}
 use Rattle.member_events.proofs.EventEndLemmas.{IsGood, good_done, above_nothing, below_nothing}
 use Rattle.member_events.proofs.TurnEnds.{IsDone, IsFine, HasSaid, EndSends, above_same, ended_fine, alone}
 

@@ -14,16 +14,16 @@ use Rattle.hd_base.specs.declared.roads.Roads as roads
 use Rattle.link_pieces.specs.Roads.{KeepsRoads, IsDialled, BringsEnd}
 use Rattle.op_headers.specs.Values.{WriteFields}
 use Rattle.replica_core.specs.declared.events.Event.{Event}
-use Rattle.replica_files.specs.declared.book_state.BookState.{BookState}
-use Rattle.request_refusals.specs.declared.refusals.RequestRefusal.{RequestRefusal}
-use Rattle.member_core.specs.declared.effects.Shuts.{Shuts}
-use Rattle.pipe_setup.specs.declared.refusals.SetupRefusal.{SetupRefusal}
-use Rattle.pipe_setup.specs.declared.refusals.SetupRefusal.TheVariants as refusal
-use Rattle.pipe_setup.specs.declared.setups.Setup.{Setup}
-use Rattle.pipe_setup.specs.declared.setups.Setup.TheVariants as setup
-use Rattle.pipe_setup.specs.Reaching.{FindsNoMemory, before, after, unsent}
-use Rattle.pipe_setup.specs.Setups.{IsDown, GoesOn}
-use Rattle.pipe_turns.specs.declared.turning.Done.{Done}
+use Rattle.pipe_member.specs.ReplicaFiles.BookState.{BookState}
+use Rattle.pipe_member.specs.RequestRefusals.RequestRefusal.{RequestRefusal}
+use Rattle.pipe_member.specs.MemberCore.Shuts.{Shuts}
+use Rattle.pipe_member.specs.PipeSetup.SetupRefusal.{SetupRefusal}
+use Rattle.pipe_member.specs.PipeSetup.SetupRefusal.TheVariants as refusal
+use Rattle.pipe_member.specs.PipeSetup.Setup.{Setup}
+use Rattle.pipe_member.specs.PipeSetup.Setup.TheVariants as setup
+use Rattle.pipe_member.specs.PipeSetup.Reaching.{FindsNoMemory, before, after, unsent}
+use Rattle.pipe_member.specs.PipeSetup.Setups.{IsDown, GoesOn}
+use Rattle.pipe_member.specs.PipeTurns.Done.{Done}
 use Rattle.pipe_member.specs.declared.member.Member.{Member}
 use Rattle.pipe_member.specs.declared.stages.Stage.{Stage}
 use Rattle.pipe_member.specs.declared.stages.Stage.TheVariants as stage

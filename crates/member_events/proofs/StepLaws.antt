@@ -7,37 +7,37 @@ use Rattle.proto_fields.specs.Varint.{varint_at, least_varint}
 use Rattle.proto_fields.specs.Frames.{limit}
 use Rattle.proto_fields.specs.Framed.{FramesSome}
 use Rattle.proto_fields.proofs.VarintLemmas.{read_varint_again, least_varint_spells}
-use Rattle.ack_codec.specs.declared.responses.Response.{Response}
-use Rattle.ack_codec.specs.Responses.{SaysResponse}
-use Rattle.ack_codec.specs.ResponseTexts.{response_message, response_text}
+use Rattle.pipe_member.specs.AckCodec.Response.{Response}
+use Rattle.pipe_member.specs.AckCodec.Responses.{SaysResponse}
+use Rattle.pipe_member.specs.AckCodec.ResponseTexts.{response_message, response_text}
 use Rattle.op_headers.specs.Values.{WriteFields}
 use Rattle.replica_core.specs.declared.ack_queue.TheConstants.{MAX_PENDING}
 use Rattle.replica_core.specs.declared.refusals.Refusal.{Refusal}
 use Rattle.replica_core.specs.declared.refusals.Refusal.TheVariants as refusal
-use Rattle.replica_model.specs.declared.events.ReplicaEvent.{ReplicaEvent}
-use Rattle.replica_model.specs.declared.events.ReplicaEvent.TheVariants as replica_event
-use Rattle.replica_model.specs.Rows.{FullReplica}
-use Rattle.member_core.specs.declared.effects.Shuts.{Shuts}
-use Rattle.member_core.specs.declared.effects.Shuts.TheVariants as shuts
-use Rattle.member_core.specs.declared.effects.Upward.{Upward}
-use Rattle.member_core.specs.declared.effects.Upward.TheVariants as upward
-use Rattle.member_core.specs.declared.turns.Booked.{Booked}
-use Rattle.member_core.specs.declared.turns.Booked.TheVariants as booked
-use Rattle.member_core.specs.declared.turns.Side.{Side}
-use Rattle.member_core.specs.declared.turns.Side.TheVariants as side
-use Rattle.member_core.specs.declared.turns.Turn.{Turn}
-use Rattle.member_core.specs.Members.{MemberState, settled, closed, closed_by, bad_sum, refused_turn, down_turn}
-use Rattle.member_core.specs.Requests.{response_of}
-use Rattle.member_core.specs.Steps.{step, outcome_of}
-use Rattle.pipe_turns.specs.Acting.{texts_of, sized_response}
-use Rattle.pipe_turns.specs.Turning.{CanBook}
+use Rattle.pipe_member.specs.ReplicaModel.ReplicaEvent.{ReplicaEvent}
+use Rattle.pipe_member.specs.ReplicaModel.ReplicaEvent.TheVariants as replica_event
+use Rattle.pipe_member.specs.ReplicaModel.Rows.{FullReplica}
+use Rattle.pipe_member.specs.MemberCore.Shuts.{Shuts}
+use Rattle.pipe_member.specs.MemberCore.Shuts.TheVariants as shuts
+use Rattle.pipe_member.specs.MemberCore.Upward.{Upward}
+use Rattle.pipe_member.specs.MemberCore.Upward.TheVariants as upward
+use Rattle.pipe_member.specs.MemberCore.Booked.{Booked}
+use Rattle.pipe_member.specs.MemberCore.Booked.TheVariants as booked
+use Rattle.pipe_member.specs.MemberCore.Side.{Side}
+use Rattle.pipe_member.specs.MemberCore.Side.TheVariants as side
+use Rattle.pipe_member.specs.MemberCore.Turn.{Turn}
+use Rattle.pipe_member.specs.MemberCore.Members.{MemberState, settled, closed, closed_by, bad_sum, refused_turn, down_turn}
+use Rattle.pipe_member.specs.MemberCore.Requests.{response_of}
+use Rattle.pipe_member.specs.MemberCore.Steps.{step, outcome_of}
+use Rattle.pipe_member.specs.PipeTurns.Acting.{texts_of, sized_response}
+use Rattle.pipe_member.specs.PipeTurns.Turning.{CanBook}
 use Rattle.pipe_member.specs.Stepping.{passed_text}
 use Rattle.pipe_member.proofs.SteppingLemmas.{silent}
-use Rattle.world.specs.Parts.{Message, response, packet}
-use Rattle.world.specs.Worlds.{World, listed}
-use Rattle.world.specs.Connections.{Next, message, the_end}
-use Rattle.world.specs.Nodes.{above_of, sent_up, passed}
-use Rattle.world_nets.specs.Rows.{text_of}
+use Rattle.world_texts.specs.World.Parts.{Message, response, packet}
+use Rattle.world_texts.specs.World.Worlds.{World, listed}
+use Rattle.world_texts.specs.World.Connections.{Next, message, the_end}
+use Rattle.world_texts.specs.World.Nodes.{above_of, sent_up, passed}
+use Rattle.world_texts.specs.WorldNets.Rows.{text_of}
 use Rattle.world_texts.specs.Texts.{SpellsText}
 use Rattle.member_events.specs.Texts.{SpellUp, IsPacketNext}
 

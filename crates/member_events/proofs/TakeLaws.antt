@@ -3,10 +3,10 @@ use Rattle.std.proofs.Common.{◌≡◌, ◌+◌, ℕ, Bool, true, false, List, 
 use Rattle.std.proofs.lemmas.List.{append-nil, length-append}
 use Rattle.hd_base.specs.Links.{Inbox, in_front}
 use Rattle.hd_base.specs.declared.links.LinkIn as link_in
-use Rattle.frame_feed.specs.Kinds.{Kind, IsSound}
-use Rattle.link_messages.specs.declared.incoming.Next.{Next}
-use Rattle.link_messages.specs.declared.incoming.Next.TheVariants as came
-use Rattle.link_messages.specs.Incomings.{IncomingState, nothing_received, coming, GivesOne, Comes, Finds, FindsNone, NextEnds}
+use Rattle.pipe_member.specs.FrameFeed.Kinds.{Kind, IsSound}
+use Rattle.pipe_member.specs.LinkMessages.Next.{Next}
+use Rattle.pipe_member.specs.LinkMessages.Next.TheVariants as came
+use Rattle.pipe_member.specs.LinkMessages.Incomings.{IncomingState, nothing_received, coming, GivesOne, Comes, Finds, FindsNone, NextEnds}
 use Rattle.pipe_member.specs.declared.stages.Looked.TheVariants as looked
 use Rattle.pipe_member.specs.Looks.{looked_of}
 

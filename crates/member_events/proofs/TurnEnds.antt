@@ -7,32 +7,32 @@ use Rattle.hd_base.specs.declared.files.Files as files
 use Rattle.hd_base.specs.declared.links.LinkOut as link_out
 use Rattle.link_pieces.specs.Pieces.{SendsNothing, SendsPiece}
 use Rattle.link_pieces.specs.Roads.{KeepsInward}
-use Rattle.packet_codec.specs.declared.packets.Packet.{Packet}
+use Rattle.pipe_member.specs.PacketCodec.Packet.{Packet}
 use Rattle.op_headers.specs.Values.{WriteFields}
 use Rattle.replica_core.specs.declared.events.Event.{Event}
 use Rattle.replica_core.specs.declared.refusals.Refusal.{Refusal}
-use Rattle.replica_model.specs.declared.events.ReplicaEvent.{ReplicaEvent}
-use Rattle.replica_model.specs.declared.events.ReplicaEvent.TheVariants as replica_event
-use Rattle.replica_model.specs.Rows.{FullReplica}
-use Rattle.replica_files.specs.declared.book_state.BookState.{BookState}
-use Rattle.replica_files.specs.Books.{replica_of}
-use Rattle.block_receiver.specs.declared.packets.Taken.{Taken}
-use Rattle.block_receiver.specs.declared.packets.Taken.TheVariants as taken
-use Rattle.packet_responder.specs.declared.sendings.Sending.{Sending}
-use Rattle.packet_responder.specs.declared.sendings.Sending.TheVariants as sending
-use Rattle.member_core.specs.declared.effects.Effect.{Effect}
-use Rattle.member_core.specs.declared.effects.Shuts.{Shuts}
-use Rattle.member_core.specs.declared.effects.Shuts.TheVariants as shuts
-use Rattle.member_core.specs.declared.effects.Upward.{Upward}
-use Rattle.member_core.specs.declared.turns.Booked.{Booked}
-use Rattle.member_core.specs.declared.turns.Booked.TheVariants as booked
-use Rattle.member_core.specs.declared.turns.Turn.{Turn}
-use Rattle.member_core.specs.Members.{MemberState, settled}
-use Rattle.member_core.specs.Steps.{Step, step, with_replica}
-use Rattle.pipe_turns.specs.Turning.{Performs, PerformsAlone, PassesEnd, SendsText, SendsAlone, packet_done, sending_done}
-use Rattle.pipe_turns.specs.Acting.{ShutsEnd, ShutsMirror, booked_of, texts_of, shuts_up, shuts_below, with_half}
-use Rattle.pipe_turns.specs.declared.turning.Done.{Done}
-use Rattle.pipe_turns.specs.declared.turning.Done.TheVariants as done
+use Rattle.pipe_member.specs.ReplicaModel.ReplicaEvent.{ReplicaEvent}
+use Rattle.pipe_member.specs.ReplicaModel.ReplicaEvent.TheVariants as replica_event
+use Rattle.pipe_member.specs.ReplicaModel.Rows.{FullReplica}
+use Rattle.pipe_member.specs.ReplicaFiles.BookState.{BookState}
+use Rattle.pipe_member.specs.ReplicaFiles.Books.{replica_of}
+use Rattle.pipe_member.specs.BlockReceiver.Taken.{Taken}
+use Rattle.pipe_member.specs.BlockReceiver.Taken.TheVariants as taken
+use Rattle.pipe_member.specs.PacketResponder.Sending.{Sending}
+use Rattle.pipe_member.specs.PacketResponder.Sending.TheVariants as sending
+use Rattle.pipe_member.specs.MemberCore.Effect.{Effect}
+use Rattle.pipe_member.specs.MemberCore.Shuts.{Shuts}
+use Rattle.pipe_member.specs.MemberCore.Shuts.TheVariants as shuts
+use Rattle.pipe_member.specs.MemberCore.Upward.{Upward}
+use Rattle.pipe_member.specs.MemberCore.Booked.{Booked}
+use Rattle.pipe_member.specs.MemberCore.Booked.TheVariants as booked
+use Rattle.pipe_member.specs.MemberCore.Turn.{Turn}
+use Rattle.pipe_member.specs.MemberCore.Members.{MemberState, settled}
+use Rattle.pipe_member.specs.MemberCore.Steps.{Step, step, with_replica}
+use Rattle.pipe_member.specs.PipeTurns.Turning.{Performs, PerformsAlone, PassesEnd, SendsText, SendsAlone, packet_done, sending_done}
+use Rattle.pipe_member.specs.PipeTurns.Acting.{ShutsEnd, ShutsMirror, booked_of, texts_of, shuts_up, shuts_below, with_half}
+use Rattle.pipe_member.specs.PipeTurns.Done.{Done}
+use Rattle.pipe_member.specs.PipeTurns.Done.TheVariants as done
 use Rattle.pipe_member.specs.declared.member.Member.{Member}
 use Rattle.pipe_member.specs.declared.stages.Took.{Took}
 use Rattle.pipe_member.specs.declared.stepped.Stepped.{Stepped}
@@ -42,7 +42,7 @@ use Rattle.pipe_member.specs.Steps.{stepped_of, done_step, receipt_of, loses_ups
 use Rattle.pipe_member.specs.Stepping.{passed_text, IsOfRules}
 use Rattle.pipe_member.specs.Turns.{Turns}
 use Rattle.pipe_member.proofs.SteppingLemmas.{silent, step_done, made, settled_as}
-use Rattle.world_nets.specs.Flushing as flushing
+use Rattle.world_texts.specs.WorldNets.Flushing as flushing
 
 -- the step was done, and no link from above and no call on files failed
 abbrev pub IsDone : Stepped → Type 0

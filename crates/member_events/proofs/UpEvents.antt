@@ -9,22 +9,22 @@ use Rattle.hd_base.specs.declared.links.LinkOut as link_out
 use Rattle.hd_base.specs.declared.numbers.ConnId.{ConnId}
 use Rattle.hd_base.specs.declared.numbers.NodeId.{NodeId}
 use Rattle.hd_base.specs.declared.roads.Roads as roads
-use Rattle.ack_codec.specs.ResponseTexts.{response_text}
-use Rattle.ack_codec.specs.AckTexts.{ack_text}
-use Rattle.frame_feed.specs.Kinds.{acks, responses}
-use Rattle.frame_feed.specs.KindLaws.{acks_sound, responses_sound}
-use Rattle.link_messages.specs.Incomings.{IncomingState, nothing_received, NextEnds}
+use Rattle.pipe_member.specs.AckCodec.ResponseTexts.{response_text}
+use Rattle.pipe_member.specs.AckCodec.AckTexts.{ack_text}
+use Rattle.pipe_member.specs.FrameFeed.Kinds.{acks, responses}
+use Rattle.pipe_member.specs.FrameFeed.KindLaws.{acks_sound, responses_sound}
+use Rattle.pipe_member.specs.LinkMessages.Incomings.{IncomingState, nothing_received, NextEnds}
 use Rattle.link_pieces.specs.Roads.{names}
 use Rattle.replica_core.specs.declared.ack_queue.PendingPacket.{PendingPacket}
 use Rattle.replica_core.specs.declared.records.ReplicaRecord.{ReplicaRecord}
-use Rattle.replica_model.specs.Rows.{FullReplica}
-use Rattle.replica_files.specs.declared.book_state.BookState.{BookState}
-use Rattle.replica_files.specs.Books.{replica_of}
-use Rattle.member_core.specs.declared.inputs.FromBelow.{FromBelow}
-use Rattle.member_core.specs.declared.turns.Turn.{Turn}
-use Rattle.member_core.specs.Members.{MemberState, up_turn}
-use Rattle.member_core.specs.Steps.{Step, step, oldest_at}
-use Rattle.pipe_turns.specs.Acting.{texts_of, ShutsMirror}
+use Rattle.pipe_member.specs.ReplicaModel.Rows.{FullReplica}
+use Rattle.pipe_member.specs.ReplicaFiles.BookState.{BookState}
+use Rattle.pipe_member.specs.ReplicaFiles.Books.{replica_of}
+use Rattle.pipe_member.specs.MemberCore.FromBelow.{FromBelow}
+use Rattle.pipe_member.specs.MemberCore.Turn.{Turn}
+use Rattle.pipe_member.specs.MemberCore.Members.{MemberState, up_turn}
+use Rattle.pipe_member.specs.MemberCore.Steps.{Step, step, oldest_at}
+use Rattle.pipe_member.specs.PipeTurns.Acting.{texts_of, ShutsMirror}
 use Rattle.pipe_member.specs.declared.member.Member.{Member}
 use Rattle.pipe_member.specs.declared.stages.Looked.{Looked}
 use Rattle.pipe_member.specs.declared.stages.Looked.TheVariants as looked
@@ -45,20 +45,20 @@ use Rattle.pipe_member.proofs.SteppingLemmas.{turns_step}
 use Rattle.road_traffic.specs.Showing.{Net, exchanged_net}
 use Rattle.road_traffic.specs.Laws.{Took}
 use Rattle.road_traffic.proofs.TrafficLemmas.{same-itself}
-use Rattle.world.specs.declared.events.Event.TheVariants as event
-use Rattle.world.specs.Parts.{ack, response, FullMember, Break}
-use Rattle.world.specs.Worlds.{World, apply, listed}
-use Rattle.world.specs.Connections.{Next, message, the_end, up_taken}
-use Rattle.world.specs.Nodes.{below_of, block_of, replica_at, member_change}
-use Rattle.world.specs.Events.{outcome, happens}
-use Rattle.world_nets.specs.Rows.{text_of}
-use Rattle.world_nets.specs.Nets.{IsEndOf, held_by, inbox_for, is_over}
-use Rattle.world_nets.specs.Drawn.{break_at}
-use Rattle.world_nets.specs.Steps.{taken_net, is_end}
-use Rattle.world_nets.proofs.DrawnLemmas.{up-makes}
-use Rattle.world_nets.proofs.EndLemmas.{exchanged-over}
-use Rattle.world_nets.proofs.FlushingLemmas.{other-number}
-use Rattle.world_nets.proofs.StepLemmas.{taken-net, taken-over, idle-net}
+use Rattle.world_texts.specs.World.Event.TheVariants as event
+use Rattle.world_texts.specs.World.Parts.{ack, response, FullMember, Break}
+use Rattle.world_texts.specs.World.Worlds.{World, apply, listed}
+use Rattle.world_texts.specs.World.Connections.{Next, message, the_end, up_taken}
+use Rattle.world_texts.specs.World.Nodes.{below_of, block_of, replica_at, member_change}
+use Rattle.world_texts.specs.World.Events.{outcome, happens}
+use Rattle.world_texts.specs.WorldNets.Rows.{text_of}
+use Rattle.world_texts.specs.WorldNets.Nets.{IsEndOf, held_by, inbox_for, is_over}
+use Rattle.world_texts.specs.WorldNets.Drawn.{break_at}
+use Rattle.world_texts.specs.WorldNets.Steps.{taken_net, is_end}
+use Rattle.world_texts.proofs.WorldNets.DrawnLemmas.{up-makes}
+use Rattle.world_texts.proofs.WorldNets.EndLemmas.{exchanged-over}
+use Rattle.world_texts.proofs.WorldNets.FlushingLemmas.{other-number}
+use Rattle.world_texts.proofs.WorldNets.StepLemmas.{taken-net, taken-over, idle-net}
 use Rattle.member_events.specs.declared.faults.MemberFault.{MemberFault}
 use Rattle.member_events.specs.declared.faults.MemberFault.TheVariants as fault
 use Rattle.member_events.specs.Events.{CanUp, IsMirrorNext, UpShows}

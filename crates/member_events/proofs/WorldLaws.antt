@@ -2,14 +2,14 @@
 use Rattle.std.proofs.Common.{◌≡◌, ℕ, ◌-◌, ◌&&◌, Bool, true, false, if◌then◌else◌, List, [], ◌++◌, slice_get, option_map, Option, Some, None, refl, sym, ap, ◌∙◌, subst}
 use Rattle.std.specs.Prelude.{◌==◌, nat_le, unwrap_or}
 use Rattle.road_traffic.proofs.TrafficLemmas.{same-itself}
-use Rattle.member_core.specs.Steps.{Step}
-use Rattle.world.specs.declared.events.Event.{Event}
-use Rattle.world.specs.Parts.{Message, FullMember, writes, Break, Dialled}
-use Rattle.world.specs.Worlds.{World, Dial, put, put_at, apply}
-use Rattle.world.specs.Connections.{Next, down_taken, up_taken, sent_on}
-use Rattle.world.specs.Nodes.{node_of, block_of, replica_at, member_change, sent_up}
-use Rattle.world.specs.Events.{outcome, happens, after_event}
-use Rattle.world_nets.specs.Changes.{world_taken}
+use Rattle.pipe_member.specs.MemberCore.Steps.{Step}
+use Rattle.world_texts.specs.World.Event.{Event}
+use Rattle.world_texts.specs.World.Parts.{Message, FullMember, writes, Break, Dialled}
+use Rattle.world_texts.specs.World.Worlds.{World, Dial, put, put_at, apply}
+use Rattle.world_texts.specs.World.Connections.{Next, down_taken, up_taken, sent_on}
+use Rattle.world_texts.specs.World.Nodes.{node_of, block_of, replica_at, member_change, sent_up}
+use Rattle.world_texts.specs.World.Events.{outcome, happens, after_event}
+use Rattle.world_texts.specs.WorldNets.Changes.{world_taken}
 
 -- TABLES
 

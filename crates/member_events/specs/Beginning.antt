@@ -6,22 +6,22 @@ use Rattle.hd_base.specs.declared.links.LinkIn as link_in
 use Rattle.hd_base.specs.declared.links.LinkOut as link_out
 use Rattle.hd_base.specs.declared.numbers.ConnId.{ConnId}
 use Rattle.hd_base.specs.declared.roads.Roads as roads
-use Rattle.frame_feed.specs.Kinds.{requests}
-use Rattle.link_messages.specs.declared.incoming.Next as came
-use Rattle.link_messages.specs.declared.incoming.Next.TheVariants as next
-use Rattle.link_messages.specs.Incomings.{IncomingState, nothing_received, NextEnds}
+use Rattle.pipe_member.specs.FrameFeed.Kinds.{requests}
+use Rattle.pipe_member.specs.LinkMessages.Next as came
+use Rattle.pipe_member.specs.LinkMessages.Next.TheVariants as next
+use Rattle.pipe_member.specs.LinkMessages.Incomings.{IncomingState, nothing_received, NextEnds}
 use Rattle.link_pieces.specs.Roads.{names, ExchangesEnd, BringsEnd}
 use Rattle.op_headers.specs.declared.ops.Op.{Op}
 use Rattle.op_headers.specs.declared.ops.Op.TheVariants as op
-use Rattle.pipe_turns.specs.Acting.{ShutsEnd}
+use Rattle.pipe_member.specs.PipeTurns.Acting.{ShutsEnd}
 use Rattle.road_traffic.specs.Showing.{Net}
-use Rattle.world.specs.declared.events.Event.TheVariants as event
-use Rattle.world.specs.Parts.{request, idle, ended_below}
-use Rattle.world.specs.Worlds.{World}
-use Rattle.world.specs.Connections.{Next, message, the_end, down_taken}
-use Rattle.world.specs.Events.{happens}
-use Rattle.world_nets.specs.Drawn.{ComesDown}
-use Rattle.world_nets.specs.Nets.{IsEndOf}
+use Rattle.world_texts.specs.World.Event.TheVariants as event
+use Rattle.world_texts.specs.World.Parts.{request, idle, ended_below}
+use Rattle.world_texts.specs.World.Worlds.{World}
+use Rattle.world_texts.specs.World.Connections.{Next, message, the_end, down_taken}
+use Rattle.world_texts.specs.World.Events.{happens}
+use Rattle.world_texts.specs.WorldNets.Drawn.{ComesDown}
+use Rattle.world_texts.specs.WorldNets.Nets.{IsEndOf}
 use Rattle.world_texts.specs.Texts.{SpellsText}
 use Rattle.member_events.specs.declared.beginning.FirstRequest.{FirstRequest}
 use Rattle.member_events.specs.declared.beginning.Requested.{Requested}

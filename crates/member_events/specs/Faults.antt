@@ -5,7 +5,7 @@ use Rattle.hd_base.specs.declared.ends.RoadError.{RoadError}
 use Rattle.hd_base.specs.declared.ends.RoadError.TheVariants as error
 use Rattle.hd_base.specs.declared.files.Files as files
 use Rattle.hd_base.specs.declared.roads.Roads as roads
-use Rattle.replica_files.specs.declared.book_state.BookState.{BookState}
+use Rattle.pipe_member.specs.ReplicaFiles.BookState.{BookState}
 use Rattle.member_events.specs.declared.faults.MemberFault.{MemberFault}
 use Rattle.member_events.specs.declared.faults.MemberFault.TheVariants as fault
 

@@ -14,20 +14,20 @@ use Rattle.hd_base.specs.declared.roads.TheConstants.{FIRST_PORT}
 use Rattle.op_headers.specs.declared.nodes.NodeRef.{NodeRef}
 use Rattle.op_headers.specs.declared.ops.Op.TheVariants as op
 use Rattle.op_headers.specs.Values.{WriteFields}
-use Rattle.member_core.specs.declared.requests.TheConstants.{MAX_PORT}
-use Rattle.replica_files.specs.declared.book_state.BookState.{BookState}
-use Rattle.replica_files.specs.Books.{replica_of}
-use Rattle.pipe_setup.specs.Requests.{first_port}
+use Rattle.pipe_member.specs.MemberCore.TheConstants.{MAX_PORT}
+use Rattle.pipe_member.specs.ReplicaFiles.BookState.{BookState}
+use Rattle.pipe_member.specs.ReplicaFiles.Books.{replica_of}
+use Rattle.pipe_member.specs.PipeSetup.Requests.{first_port}
 use Rattle.pipe_member.specs.declared.member.Member.{Member}
 use Rattle.road_traffic.specs.Showing.{Net}
-use Rattle.world.specs.declared.events.Event.TheVariants as event
-use Rattle.world.specs.Parts.{Message, request, FullMember, idle, writes, ended_below, by_member}
-use Rattle.world.specs.Worlds.{World}
-use Rattle.world.specs.Connections.{Next, message, down_taken, place_of}
-use Rattle.world.specs.Nodes.{node_of, block_of, replica_at, mirror_node}
-use Rattle.world.specs.Events.{happens}
-use Rattle.world_nets.specs.Drawn.{ComesDown}
-use Rattle.world_nets.specs.Nets.{IsEndOf}
+use Rattle.world_texts.specs.World.Event.TheVariants as event
+use Rattle.world_texts.specs.World.Parts.{Message, request, FullMember, idle, writes, ended_below, by_member}
+use Rattle.world_texts.specs.World.Worlds.{World}
+use Rattle.world_texts.specs.World.Connections.{Next, message, down_taken, place_of}
+use Rattle.world_texts.specs.World.Nodes.{node_of, block_of, replica_at, mirror_node}
+use Rattle.world_texts.specs.World.Events.{happens}
+use Rattle.world_texts.specs.WorldNets.Drawn.{ComesDown}
+use Rattle.world_texts.specs.WorldNets.Nets.{IsEndOf}
 use Rattle.world_texts.specs.Texts.{SpellsText}
 use Rattle.member_events.specs.declared.beginning.Requested.{Requested}
 use Rattle.member_events.specs.declared.joining.Joined.{Joined}

@@ -6,3 +6,14 @@ pub mod Showing
 pub mod Events
 pub mod Beginning
 pub mod Joining
+pub mod LinkMessages
+pub mod MemberCore
+pub mod PacketStream
+pub mod PipeMember
+pub mod PipeSetup
+pub mod ReplicaFiles
+pub mod ReplicaModel
+pub mod RequestRefusals
+pub mod World
+pub mod WorldNets
+pub mod WorldTexts

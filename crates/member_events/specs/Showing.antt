@@ -4,19 +4,19 @@ use Rattle.hd_base.specs.declared.ends.Conn.{Conn}
 use Rattle.hd_base.specs.declared.links.LinkIn as link_in
 use Rattle.hd_base.specs.declared.links.LinkOut as link_out
 use Rattle.hd_base.specs.declared.roads.Roads as roads
-use Rattle.replica_files.specs.declared.book_state.BookState.{BookState}
-use Rattle.replica_files.specs.Books.{replica_of}
-use Rattle.link_messages.specs.Incomings.{IncomingState, nothing_received}
+use Rattle.pipe_member.specs.ReplicaFiles.BookState.{BookState}
+use Rattle.pipe_member.specs.ReplicaFiles.Books.{replica_of}
+use Rattle.pipe_member.specs.LinkMessages.Incomings.{IncomingState, nothing_received}
 use Rattle.pipe_member.specs.declared.member.Member.{Member}
 use Rattle.pipe_member.specs.declared.stages.Stage.TheVariants as stage
 use Rattle.pipe_member.specs.Above.{nothing_above}
 use Rattle.pipe_member.specs.EventSteps.{HoldsMirror}
 use Rattle.road_traffic.specs.Showing.{Net, IsSane, RoadsShow}
-use Rattle.world.specs.Parts.{FullMember, writes}
-use Rattle.world.specs.Worlds.{World}
-use Rattle.world.specs.Nodes.{node_of, block_of, replica_at}
-use Rattle.world_nets.specs.Nets.{IsNetOf, IsEndOf, is_over}
-use Rattle.world_nets.specs.Ends.{IsElsewhere}
+use Rattle.world_texts.specs.World.Parts.{FullMember, writes}
+use Rattle.world_texts.specs.World.Worlds.{World}
+use Rattle.world_texts.specs.World.Nodes.{node_of, block_of, replica_at}
+use Rattle.world_texts.specs.WorldNets.Nets.{IsNetOf, IsEndOf, is_over}
+use Rattle.world_texts.specs.WorldNets.Ends.{IsElsewhere}
 
 -- ROADS
 

@@ -1,8 +1,8 @@
 -- Messages of a member that are spelled by the bytes as which they are written.
 use Rattle.std.specs.Prelude.{◌≡◌, ℕ, slice_get, Some}
-use Rattle.world.specs.Parts.{Message, packet}
-use Rattle.world.specs.Worlds.{World}
-use Rattle.world.specs.Connections.{Next, message, the_end}
+use Rattle.world_texts.specs.World.Parts.{Message, packet}
+use Rattle.world_texts.specs.World.Worlds.{World}
+use Rattle.world_texts.specs.World.Connections.{Next, message, the_end}
 use Rattle.world_texts.specs.Texts.{SpellsText}
 
 -- Each message that was sent up on the connection is spelled by the bytes as which it is written.

@@ -17,9 +17,9 @@ ghost use Rattle.member_events.specs.Beginning.{
 
 use crate::faults::{MemberFault, road_fault};
 use hd_base::{Conn, LinkIn, LinkOut, Roads};
-use link_messages::{Incoming, Next};
 use link_pieces::exchange_end;
 use op_headers::{Op, WriteOp};
+use pipe_member::{Incoming, Next};
 use std::alloc::Global;
 
 /// A request, and the end that has taken it.

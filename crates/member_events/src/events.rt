@@ -8,8 +8,7 @@ ghost use Rattle.member_events.specs.Events.{ReadyShows, DownShows, UpShows};
 use crate::faults::MemberFault;
 use crate::steps::{exchanged, lost, placed};
 use hd_base::{ConnId, Files, LinkIn, LinkOut, Roads};
-use pipe_member::{Looked, Member};
-use replica_files::ReplicaBook;
+use pipe_member::{Looked, Member, ReplicaBook};
 use std::alloc::Global;
 
 /// A member acts without a message. The member is handed back, unless it has shut.

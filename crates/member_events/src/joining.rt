@@ -10,10 +10,8 @@ use crate::beginning::Requested;
 use crate::faults::{MemberFault, road_fault};
 use crate::steps::{lost, placed};
 use hd_base::{Conn, ConnId, Files, LinkIn, LinkOut, NodeId, Roads};
-use member_core::MAX_PORT;
 use op_headers::WriteOp;
-use pipe_member::Member;
-use replica_files::ReplicaBook;
+use pipe_member::{MAX_PORT, Member, ReplicaBook};
 use std::alloc::Global;
 
 /// What became of the dial of a member's mirror.

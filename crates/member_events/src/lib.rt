@@ -12,3 +12,5 @@ pub use beginning::{FirstRequest, Requested, begin, first_request};
 pub use events::{member_down, member_ready, mirror_up};
 pub use faults::MemberFault;
 pub use joining::{Joined, MirrorDial, join};
+pub use pipe_member::{Looked, Member, ReplicaBook};
+pub use world_texts::starts_are_nets;

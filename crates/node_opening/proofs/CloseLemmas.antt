@@ -11,14 +11,14 @@ use Rattle.std.specs.Prelude.{option_and_then}
 use Rattle.std.proofs.lemmas.List.{length-take}
 use Rattle.play_nodes.proofs.Tables.{set_here, set_there, same_or}
 use Rattle.play_nodes.proofs.PlaceLaws.{element_within, same_some, book_found}
-use Rattle.replica_files.specs.declared.book_state.BookState.{BookState}
+use Rattle.play_nodes.specs.ReplicaFiles.BookState.{BookState}
 use Rattle.node_opening.specs.Shelves.{is_among, AreDistinct}
 use Rattle.node_opening.specs.Closing.{block_of, blocks_of, faults_of, files_with, books_within, AreLentOut, AreOf, TheyLend, NodesFit, NodeCloses, NodesClose}
 use Rattle.node_opening.proofs.ListLemmas.{get_front, get_end, get_take, get_longer, get_within, take_next, none_left}
 use Rattle.node_opening.proofs.ShelfLemmas.{among_more, distinct_front}
 use Rattle.node_opening.proofs.FileLemmas.{with_end}
 use Rattle.hd_base.specs.FileMaps.{OnlyOf}
-use Rattle.replica_files.specs.Books.{IsBookOf}
+use Rattle.play_nodes.specs.ReplicaFiles.Books.{IsBookOf}
 
 -- BLOCKS
 

@@ -4,7 +4,7 @@ use Rattle.std.specs.Option.{option_or}
 use Rattle.hd_base.specs.Blocks.{is_of_block}
 use Rattle.hd_base.specs.FileMaps.{FileMap, no_files, part_of, rest_of, beside, both_observable, OnlyOf}
 use Rattle.hd_base.specs.declared.files.Files as files
-use Rattle.replica_files.specs.declared.book_state.BookState.{BookState}
+use Rattle.play_nodes.specs.ReplicaFiles.BookState.{BookState}
 use Rattle.node_opening.specs.Closing.{files_with}
 
 -- PARTS

@@ -10,14 +10,14 @@ use Rattle.hd_base.specs.declared.shelves.Shelf as shelves
 use Rattle.play_nodes.specs.declared.nodes.NodeBooks.{NodeBooks}
 use Rattle.play_nodes.proofs.Tables.{joined_or, element, same_or, set_here, set_there}
 use Rattle.play_nodes.proofs.PlaceLaws.{element_within, same_some}
-use Rattle.replica_files.specs.declared.book_state.BookState.{BookState}
-use Rattle.replica_files.specs.Endings.{IsNew}
+use Rattle.play_nodes.specs.ReplicaFiles.BookState.{BookState}
+use Rattle.play_nodes.specs.ReplicaFiles.Endings.{IsNew}
 use Rattle.node_opening.specs.Shelves.{is_among, AreDistinct, IsEmpty, HasLent, IsGivenBack, EachShelf, AllEmpty}
-use Rattle.replica_files.specs.Books.{replica_of}
-use Rattle.replica_model.specs.Rows.{FullReplica, nothing}
-use Rattle.replica_model.specs.Histories.{replay, begun}
-use Rattle.replica_model.specs.declared.histories.Start.{Start}
-use Rattle.replica_model.specs.declared.histories.Entry.{Entry}
+use Rattle.play_nodes.specs.ReplicaFiles.Books.{replica_of}
+use Rattle.play_nodes.specs.ReplicaModel.Rows.{FullReplica, nothing}
+use Rattle.play_nodes.specs.ReplicaModel.Histories.{replay, begun}
+use Rattle.play_nodes.specs.ReplicaModel.Start.{Start}
+use Rattle.play_nodes.specs.ReplicaModel.Entry.{Entry}
 use Rattle.node_opening.specs.Closing.{block_of, blocks_of, books_within, AreLentOut, TheyLend, NodeCloses, NodesClose}
 use Rattle.node_opening.specs.Lending.{IsNewBook, AreNewBooks, HasBooks, HaveBooks, IsLent, IsUnlent, IsLentNext, IsNodeLent}
 use Rattle.node_opening.proofs.ListLemmas.{UpTo, up_to_map, up_to_next, up_to_here, up_to_end, get_front, get_end}

@@ -7,3 +7,6 @@ pub mod CloseLemmas
 pub mod LendLemmas
 pub mod OpenLemmas
 pub mod StandLemmas
+pub mod MemberEvents
+pub mod PlayNodes
+pub mod WorldLaws

@@ -6,7 +6,7 @@ use Rattle.hd_base.specs.Faults.{FaultsIncreased}
 use Rattle.hd_base.specs.declared.roads.Roads as roads
 use Rattle.hd_base.specs.declared.roads.TheConstants.{FIRST_PORT}
 use Rattle.road_traffic.specs.Showing.{RoadsShow, listened_net}
-use Rattle.world_nets.specs.Starts.{IsUnused}
+use Rattle.play_nodes.specs.WorldNets.Starts.{IsUnused}
 use Rattle.node_opening.specs.Listening.{AreUnused, opened_net, ListensAt, ListenAll}
 use Rattle.std.specs.Prelude.{Err}
 use Rattle.hd_base.specs.RoadCauses.{RoadCause}

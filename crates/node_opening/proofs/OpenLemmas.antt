@@ -8,10 +8,10 @@ use Rattle.hd_base.specs.declared.roads.Roads as roads
 use Rattle.hd_base.specs.declared.shelves.Shelf as shelves
 use Rattle.road_traffic.specs.Showing.{Net, RoadsShow}
 use Rattle.std.specs.Prelude.{Bool, true, false, ◌||◌}
-use Rattle.replica_model.specs.Rows.{FullReplica, nothing}
-use Rattle.replica_files.specs.declared.book_state.BookState.{BookState}
-use Rattle.replica_files.specs.Books.{replica_of}
-use Rattle.replica_files.specs.Endings.{IsNew}
+use Rattle.play_nodes.specs.ReplicaModel.Rows.{FullReplica, nothing}
+use Rattle.play_nodes.specs.ReplicaFiles.BookState.{BookState}
+use Rattle.play_nodes.specs.ReplicaFiles.Books.{replica_of}
+use Rattle.play_nodes.specs.ReplicaFiles.Endings.{IsNew}
 use Rattle.play_nodes.specs.declared.nodes.NodeBooks.{NodeBooks}
 use Rattle.play_nodes.specs.declared.nodes.Nodes.{Nodes}
 use Rattle.play_nodes.specs.declared.connections.Connection.{Connection}
@@ -19,8 +19,8 @@ use Rattle.play_nodes.specs.Places.{book_at}
 use Rattle.play_nodes.specs.Showing.{NodesShow, NodesStand, ConnectionShows}
 use Rattle.play_nodes.proofs.Tables.{element}
 use Rattle.play_nodes.proofs.PlaceLaws.{element_within, same_some, book_found}
-use Rattle.world.specs.Worlds.{World, start}
-use Rattle.world_nets.specs.Starts.{StartsAreNets}
+use Rattle.play_nodes.specs.World.Worlds.{World, start}
+use Rattle.play_nodes.specs.WorldNets.Starts.{StartsAreNets}
 use Rattle.node_opening.specs.Shelves.{AreDistinct}
 use Rattle.node_opening.specs.Closing.{block_of, blocks_of, TheyLend, NodesFit}
 use Rattle.node_opening.proofs.CloseLemmas.{FoundAt, found_by, block_at, among_front}
@@ -28,7 +28,7 @@ use Rattle.node_opening.proofs.LendLemmas.{new_replica, new_block}
 use Rattle.node_opening.specs.Lending.{HasBooks, HaveBooks}
 use Rattle.node_opening.specs.Listening.{opened_net}
 use Rattle.node_opening.specs.Laws.{CanClose}
-use Rattle.world_laws.specs.Filling.{Filled}
+use Rattle.play_nodes.specs.WorldLaws.Filling.{Filled}
 use Rattle.node_opening.specs.Opening.{IsOpened}
 use Rattle.node_opening.proofs.ListenLemmas.{net_unused}
 use Rattle.std.specs.Prelude.{IfSome, option_map}

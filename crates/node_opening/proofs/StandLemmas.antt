@@ -13,7 +13,7 @@ use Rattle.play_nodes.specs.declared.nodes.Nodes.{Nodes}
 use Rattle.play_nodes.specs.Places.{book_at}
 use Rattle.play_nodes.proofs.Tables.{element}
 use Rattle.play_nodes.proofs.PlaceLaws.{element_within, same_some}
-use Rattle.replica_files.specs.declared.book_state.BookState.{BookState}
+use Rattle.play_nodes.specs.ReplicaFiles.BookState.{BookState}
 use Rattle.node_opening.specs.Closing.{faults_of, TheyLend, NodeCloses, NodesClose}
 use Rattle.node_opening.specs.Emptiness.{ShelfRose}
 use Rattle.node_opening.specs.Laws.{NeverFell, HaveClosed, StandingNodes}

@@ -7,8 +7,8 @@ use Rattle.hd_base.specs.declared.files.Files as files
 use Rattle.hd_base.specs.declared.shelves.Shelf as shelves
 use Rattle.play_nodes.specs.declared.nodes.NodeBooks.{NodeBooks}
 use Rattle.play_nodes.specs.Places.{book_at}
-use Rattle.replica_files.specs.Books.{replica_of, IsBookOf}
-use Rattle.replica_files.specs.declared.book_state.BookState.{BookState}
+use Rattle.play_nodes.specs.ReplicaFiles.Books.{replica_of, IsBookOf}
+use Rattle.play_nodes.specs.ReplicaFiles.BookState.{BookState}
 use Rattle.node_opening.specs.Shelves.{is_among, AreDistinct}
 
 -- the block of a book's replica

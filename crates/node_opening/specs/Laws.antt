@@ -10,10 +10,10 @@ use Rattle.play_nodes.specs.declared.nodes.NodeBooks.{NodeBooks}
 use Rattle.play_nodes.specs.declared.nodes.Nodes.{Nodes}
 use Rattle.play_nodes.specs.Places.{book_at}
 use Rattle.play_nodes.specs.Showing.{NodesShow}
-use Rattle.replica_files.specs.declared.book_state.BookState.{BookState}
+use Rattle.play_nodes.specs.ReplicaFiles.BookState.{BookState}
 use Rattle.road_traffic.specs.Showing.{Net}
-use Rattle.world.specs.Worlds.{World}
-use Rattle.world_laws.specs.Filling.{Filled}
+use Rattle.play_nodes.specs.World.Worlds.{World}
+use Rattle.play_nodes.specs.WorldLaws.Filling.{Filled}
 use Rattle.node_opening.specs.Closing.{TheyLend, AreOf, NodesFit, NodesClose, books_within}
 use Rattle.node_opening.specs.Emptiness.{ShelfRose}
 use Rattle.node_opening.specs.Opening.{IsOpened}

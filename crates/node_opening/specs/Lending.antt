@@ -5,8 +5,8 @@ use Rattle.hd_base.specs.declared.numbers.BlockId.{BlockId}
 use Rattle.hd_base.specs.declared.files.Files as files
 use Rattle.hd_base.specs.declared.shelves.Shelf as shelves
 use Rattle.play_nodes.specs.declared.nodes.NodeBooks.{NodeBooks}
-use Rattle.replica_files.specs.declared.book_state.BookState.{BookState}
-use Rattle.replica_files.specs.Endings.{IsNew}
+use Rattle.play_nodes.specs.ReplicaFiles.BookState.{BookState}
+use Rattle.play_nodes.specs.ReplicaFiles.Endings.{IsNew}
 use Rattle.node_opening.specs.Shelves.{HasLent, IsGivenBack}
 use Rattle.node_opening.specs.Closing.{blocks_of}
 

@@ -6,3 +6,10 @@ pub mod Standing
 pub mod Lending
 pub mod Opening
 pub mod Laws
+pub mod MemberEvents
+pub mod PipeMember
+pub mod PlayModel
+pub mod PlayNodes
+pub mod World
+pub mod WorldNets
+pub mod WorldRequests

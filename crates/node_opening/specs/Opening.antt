@@ -9,7 +9,7 @@ use Rattle.hd_base.specs.declared.roads.Roads as roads
 use Rattle.hd_base.specs.declared.shelves.Shelf as shelves
 use Rattle.play_nodes.specs.declared.nodes.Nodes.{Nodes}
 use Rattle.play_nodes.specs.Showing.{NodesStand}
-use Rattle.world.specs.Worlds.{start}
+use Rattle.play_nodes.specs.World.Worlds.{start}
 use Rattle.node_opening.specs.declared.faults.OpenFault.{OpenFault}
 use Rattle.node_opening.specs.declared.faults.OpenFault.TheVariants as fault
 use Rattle.node_opening.specs.Shelves.{AllEmpty}

@@ -5,8 +5,7 @@ ghost use Rattle.node_opening.specs.Closing.{AreLentOut, TheyLend, NodeCloses, N
 ghost use Rattle.node_opening.specs.Shelves.{AreDistinct};
 
 use hd_base::{BlockId, Shelf};
-use play_nodes::NodeBooks;
-use replica_files::ReplicaBook;
+use play_nodes::{NodeBooks, ReplicaBook};
 
 /// The books of a node, of which none stands past the blocks, are closed, and their drawers given back to its shelf, each
 /// under the block at the book's place.

@@ -6,8 +6,7 @@ ghost use Rattle.node_opening.specs.Lending.{LendsBook, LendsNext, LendsBooks, L
 
 use crate::closing::{close_nodes, give_back_books};
 use hd_base::{BlockId, Shelf};
-use play_nodes::NodeBooks;
-use replica_files::ReplicaBook;
+use play_nodes::{NodeBooks, ReplicaBook};
 use std::alloc::{AllocError, Global};
 
 /// A block is lent, and the book of its absent replica is made.

@@ -17,3 +17,4 @@ pub use laws::{
     standing_nodes_close,
 };
 pub use opening::open_nodes;
+pub use play_nodes::{NodeBooks, Nodes, Upper};

@@ -10,9 +10,8 @@ use crate::faults::OpenFault;
 use crate::lending::lend_all;
 use crate::listening::listen_all;
 use hd_base::{BlockId, Roads, Shelf};
-use play_nodes::Nodes;
+use play_nodes::{Nodes, starts_are_nets};
 use std::alloc::Global;
-use world_nets::starts_are_nets;
 
 /// Opens the nodes of a play, as many as there are shelves: each listens on its port, its shelf has no files, and lends
 /// the files of each block, over which the book of an absent replica is made. There are ports for all nodes, and each

@@ -5,8 +5,8 @@ use Rattle.hd_base.specs.Blocks.{is_of_block}
 use Rattle.hd_base.specs.FileMaps.{FileMap, no_files, part_of, beside, both_observable, OnlyOf}
 use Rattle.hd_base.specs.declared.files.Files as files
 use Rattle.hd_base.specs.declared.numbers.BlockId.{BlockId}
-use Rattle.play_nodes.proofs.PlaceLaws.{same_some, element_within}
-use Rattle.play_nodes.proofs.Tables.{element}
+use Rattle.node_opening.proofs.PlayNodes.PlaceLaws.{same_some, element_within}
+use Rattle.node_opening.proofs.PlayNodes.Tables.{element}
 use Rattle.replica_files.specs.Books.{IsBookOf}
 use Rattle.replica_files.specs.declared.book_state.BookState.{BookState}
 use Rattle.node_opening.specs.Closing.{block_of, files_with, AreOf}

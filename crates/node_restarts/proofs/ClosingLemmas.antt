@@ -3,7 +3,7 @@ use Rattle.std.proofs.Common.{◌≡◌, ◌<◌, ◌^◌, zero, suc, List, [], 
 use Rattle.hd_base.specs.declared.files.Files as files
 use Rattle.hd_base.specs.declared.numbers.BlockId.{BlockId}
 use Rattle.hd_base.specs.declared.numbers.Stamp.{Stamp}
-use Rattle.play_nodes.proofs.PlaceLaws.{same_some}
+use Rattle.node_opening.proofs.PlayNodes.PlaceLaws.{same_some}
 use Rattle.replica_core.specs.declared.info.ReplicaInfo.{ReplicaInfo}
 use Rattle.replica_core.specs.Views.{stamp_in}
 use Rattle.replica_files.specs.declared.book_state.BookState.{BookState}

@@ -22,9 +22,9 @@ use Rattle.restart_scan.specs.Pairs.{Pair, IsPair, is_temporary, without_tempora
 use Rattle.restart_scan.specs.Restarts.{Shows, FindsAllowed}
 use Rattle.restart_scan.proofs.FrontLemmas.{has_front}
 use Rattle.restart_scan.proofs.WholeLemmas.{whole_replicas_are_found}
-use Rattle.world.specs.Parts.{Break}
-use Rattle.world.specs.Restarts.{may_find, replica_found, restarted, whole_found}
-use Rattle.world_laws.proofs.FoundLaws.{may-find-exact}
+use Rattle.node_opening.specs.World.Parts.{Break}
+use Rattle.node_opening.specs.World.Restarts.{may_find, replica_found, restarted, whole_found}
+use Rattle.node_opening.proofs.WorldLaws.FoundLaws.{may-find-exact}
 use Rattle.node_opening.specs.Closing.{block_of}
 use Rattle.node_restarts.specs.Making.{IsBookFor}
 use Rattle.node_restarts.specs.Restarting.{HasNoPair, IsUnbroken, BrokeIn, StandsAs, IsRestarted}

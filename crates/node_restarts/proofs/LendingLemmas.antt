@@ -7,14 +7,14 @@ use Rattle.hd_base.specs.FileMaps.{FileMap, part_of, rest_of}
 use Rattle.hd_base.specs.declared.files.Files as files
 use Rattle.hd_base.specs.declared.numbers.BlockId.{BlockId}
 use Rattle.hd_base.specs.declared.shelves.Shelf as shelves
-use Rattle.play_nodes.proofs.PlaceLaws.{same_some}
+use Rattle.node_opening.proofs.PlayNodes.PlaceLaws.{same_some}
 use Rattle.replica_model.specs.Found.{Found}
 use Rattle.replica_model.specs.Rows.{FullReplica}
 use Rattle.replica_files.specs.declared.book_state.BookState.{BookState}
 use Rattle.restart_scan.specs.declared.found.Seen.{Seen}
 use Rattle.restart_scan.specs.Shelves.{IsHeldAs}
 use Rattle.restart_scan.proofs.ScanLemmas.{later}
-use Rattle.world.specs.Restarts.{replica_found}
+use Rattle.node_opening.specs.World.Restarts.{replica_found}
 use Rattle.node_opening.specs.Closing.{block_of, blocks_of, AreLentOut, NodeCloses}
 use Rattle.node_opening.specs.Lending.{IsUnlent}
 use Rattle.node_opening.specs.Shelves.{is_among, AreDistinct}

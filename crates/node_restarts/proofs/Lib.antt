@@ -8,3 +8,5 @@ pub mod FoundLemmas
 pub mod SeekingLemmas
 pub mod RestartingLemmas
 pub mod LawLemmas
+pub mod NodeOpening
+pub mod PlayNodes

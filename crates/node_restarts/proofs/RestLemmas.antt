@@ -5,7 +5,7 @@ use Rattle.hd_base.specs.Blocks as blocks
 use Rattle.hd_base.specs.Blocks.{is_this, is_of_block}
 use Rattle.hd_base.specs.FileMaps.{FileMap, no_files, part_of, rest_of}
 use Rattle.hd_base.specs.declared.numbers.BlockId.{BlockId}
-use Rattle.play_nodes.proofs.PlaceLaws.{same_some}
+use Rattle.node_opening.proofs.PlayNodes.PlaceLaws.{same_some}
 use Rattle.node_opening.specs.Shelves.{is_among}
 use Rattle.node_opening.proofs.CloseLemmas.{same_eqb}
 use Rattle.node_restarts.specs.Lending.{rest_after}

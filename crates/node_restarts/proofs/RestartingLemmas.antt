@@ -8,8 +8,8 @@ use Rattle.hd_base.specs.FileMaps.{FileMap, no_files, part_of}
 use Rattle.hd_base.specs.declared.files.Files as files
 use Rattle.hd_base.specs.declared.numbers.BlockId.{BlockId}
 use Rattle.hd_base.specs.declared.shelves.Shelf as shelves
-use Rattle.play_nodes.proofs.PlaceLaws.{element_within}
-use Rattle.play_nodes.proofs.Tables.{element}
+use Rattle.node_opening.proofs.PlayNodes.PlaceLaws.{element_within}
+use Rattle.node_opening.proofs.PlayNodes.Tables.{element}
 use Rattle.replica_files.specs.declared.book_state.BookState.{BookState}
 use Rattle.replica_files.specs.Books.{replica_of}
 use Rattle.replica_model.specs.Found.{Found as ReplicaFound}
@@ -20,7 +20,7 @@ use Rattle.restart_scan.specs.declared.found.Seen.{Seen}
 use Rattle.restart_scan.specs.Faults.{ScansFor}
 use Rattle.restart_scan.specs.Restarts.{Shows}
 use Rattle.restart_scan.specs.Shelves.{WhereTold, StaysUntold, ScansShelf, LendsNoMore as KeepsLent}
-use Rattle.world.specs.Restarts.{replica_found}
+use Rattle.node_opening.specs.World.Restarts.{replica_found}
 use Rattle.node_opening.specs.Closing.{block_of, blocks_of, files_with, AreLentOut, AreOf, NodeCloses}
 use Rattle.node_opening.specs.Shelves.{is_among, LendsNoMore}
 use Rattle.node_opening.proofs.CloseLemmas.{block_at, same_eqb}

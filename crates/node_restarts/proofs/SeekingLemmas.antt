@@ -5,7 +5,7 @@ use Rattle.std.proofs.lemmas.List.{take_all}
 use Rattle.std.proofs.lemmas.List.Folds.{list_any-append}
 use Rattle.hd_base.specs.FileMaps.{FileMap}
 use Rattle.hd_base.specs.declared.numbers.BlockId.{BlockId}
-use Rattle.play_nodes.proofs.PlaceLaws.{same_some}
+use Rattle.node_opening.proofs.PlayNodes.PlaceLaws.{same_some}
 use Rattle.replica_files.specs.declared.book_state.BookState.{BookState}
 use Rattle.restart_scan.specs.declared.found.Seen.{Seen}
 use Rattle.node_opening.specs.Closing.{block_of}

@@ -5,3 +5,10 @@ pub mod Lending
 pub mod Seeking
 pub mod Restarting
 pub mod Laws
+pub mod MemberEvents
+pub mod NodeOpening
+pub mod PipeMember
+pub mod PlayModel
+pub mod PlayNodes
+pub mod ReplicaFiles
+pub mod WorldNets

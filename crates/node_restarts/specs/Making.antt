@@ -9,7 +9,7 @@ use Rattle.replica_model.specs.Found.{Found}
 use Rattle.restart_scan.specs.declared.found.Seen.{Seen}
 use Rattle.restart_scan.specs.Restarts.{Shows}
 use Rattle.restart_scan.specs.Shelves.{IsHeldAs}
-use Rattle.world.specs.Restarts.{replica_found}
+use Rattle.node_opening.specs.World.Restarts.{replica_found}
 use Rattle.node_restarts.specs.declared.faults.RestartFault.{RestartFault}
 use Rattle.node_restarts.specs.Faults.{HasRestartCause}
 

@@ -11,8 +11,8 @@ use Rattle.replica_model.specs.Found.{Found, found_whole}
 use Rattle.restart_scan.specs.Laws.{FindsBlock}
 use Rattle.restart_scan.specs.Pairs.{Pair, IsPair}
 use Rattle.restart_scan.specs.Restarts.{FindsAllowed}
-use Rattle.world.specs.Parts.{Break}
-use Rattle.world.specs.Restarts.{may_find, replica_found, restarted}
+use Rattle.node_opening.specs.World.Parts.{Break}
+use Rattle.node_opening.specs.World.Restarts.{may_find, replica_found, restarted}
 use Rattle.node_opening.specs.Closing.{block_of, blocks_of, AreLentOut}
 use Rattle.node_opening.specs.Shelves.{is_among, LendsNoMore}
 use Rattle.node_restarts.specs.Seeking.{is_sought}

@@ -12,4 +12,6 @@ mod seeking;
 
 pub use faults::RestartFault;
 pub use laws::{failed_books_are_broken, new_books_are_unbroken};
+pub use node_opening::{Nodes, OpenFault, close_nodes, open_nodes, opened_nodes_close};
+pub use replica_files::ReplicaBook;
 pub use restarting::restart_books;

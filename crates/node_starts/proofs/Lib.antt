@@ -1,3 +1,4 @@
 mod LifeLemmas
 pub mod StartLemmas
 mod ReturnLemmas
+pub mod NodeOpening

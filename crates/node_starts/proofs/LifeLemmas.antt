@@ -15,10 +15,10 @@ use Rattle.member_core.specs.declared.member.Mirror.TheVariants as mirror
 use Rattle.member_core.specs.declared.turns.Turn.{Turn}
 use Rattle.member_core.specs.Members.{MemberState}
 use Rattle.packet_codec.specs.declared.packets.Packet.{Packet}
-use Rattle.read_core.specs.declared.reading.ReadTurn.{ReadTurn}
-use Rattle.read_core.specs.declared.reading.ReadTurn.TheVariants as turn
-use Rattle.read_core.specs.Readings.{ReadTaken, take_from}
-use Rattle.read_core.specs.Servings.{ServingState}
+use Rattle.world.specs.ReadCore.ReadTurn.{ReadTurn}
+use Rattle.world.specs.ReadCore.ReadTurn.TheVariants as turn
+use Rattle.world.specs.ReadCore.Readings.{ReadTaken, take_from}
+use Rattle.world.specs.ReadCore.Servings.{ServingState}
 use Rattle.recovery_core.specs.declared.members.RecoveryReply.{RecoveryReply}
 use Rattle.recovery_core.specs.declared.primary.OwnStep.{OwnStep as LeadStep}
 use Rattle.recovery_core.specs.declared.primary.OwnStep.TheVariants as lead
@@ -56,8 +56,8 @@ use Rattle.world.specs.Clients.{writer_change, did, dialled_change, dialling, re
 use Rattle.world.specs.Primaries.{primary_dials, begins_as, begins_at, leads_step, commits_step, leads_told, own_primary_as, hears_change, primary_up_as, listens, writer_asks, primary_commits, primary_asks, office_event}
 use Rattle.world.specs.Events.{changed, own_change, down_as, down_event, ready_event, unless_fails, upper_up, up_as, up_event, fault_event, lost, where_so, outcome, after_event, happens, run}
 use Rattle.world.specs.Restarts.{restart}
-use Rattle.world_laws.specs.Growing.{Grows, PastGrows}
-use Rattle.world_laws.proofs.FactTables.{when-each}
+use Rattle.world_breaks.specs.WorldLaws.Growing.{Grows, PastGrows}
+use Rattle.world_breaks.proofs.WorldLaws.FactTables.{when-each}
 use Rattle.node_starts.specs.Lives.{IsLived, DialsAreLived}
 
 -- DIALS

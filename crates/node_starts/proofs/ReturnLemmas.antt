@@ -9,20 +9,20 @@ use Rattle.hd_base.specs.declared.numbers.NodeId.{NodeId}
 use Rattle.hd_base.specs.declared.roads.Roads as roads
 use Rattle.hd_base.specs.declared.shelves.Shelf as shelves
 use Rattle.replica_core.specs.declared.info.ReplicaInfo.{ReplicaInfo}
-use Rattle.replica_files.specs.Books.{replica_of}
-use Rattle.replica_files.specs.declared.book_state.BookState.{BookState}
+use Rattle.node_restarts.specs.ReplicaFiles.Books.{replica_of}
+use Rattle.node_restarts.specs.ReplicaFiles.BookState.{BookState}
 use Rattle.replica_model.specs.Found.{Found, found_whole}
 use Rattle.replica_model.specs.Rows.{FullReplica}
 use Rattle.road_traffic.specs.Showing.{Net}
 use Rattle.world.specs.Parts.{Break}
 use Rattle.world.specs.Restarts.{is_whole_as, may_find, replica_found, restarted}
 use Rattle.world.specs.Worlds.{World}
-use Rattle.play_nodes.specs.declared.nodes.NodeBooks.{NodeBooks}
-use Rattle.play_nodes.specs.declared.nodes.Nodes.{Nodes}
-use Rattle.play_nodes.specs.Showing.{NodesStand}
-use Rattle.play_nodes.proofs.Tables.{element}
-use Rattle.node_opening.specs.Closing.{block_of, AreLentOut, AreOf}
-use Rattle.node_opening.proofs.CloseLemmas.{block_at, length_blocks}
+use Rattle.node_restarts.specs.PlayNodes.NodeBooks.{NodeBooks}
+use Rattle.node_restarts.specs.PlayNodes.Nodes.{Nodes}
+use Rattle.node_restarts.specs.PlayNodes.Showing.{NodesStand}
+use Rattle.node_restarts.proofs.PlayNodes.Tables.{element}
+use Rattle.node_restarts.specs.NodeOpening.Closing.{block_of, AreLentOut, AreOf}
+use Rattle.node_restarts.proofs.NodeOpening.CloseLemmas.{block_at, length_blocks}
 use Rattle.node_restarts.specs.Restarting.{TellAll, HasNoPair, StandsAgain}
 use Rattle.node_restarts.specs.Seeking.{is_sought}
 use Rattle.node_starts.specs.Books.{AreBooksOf, HasAllBooks, NodeTells, BooksReturn, StartsOver}

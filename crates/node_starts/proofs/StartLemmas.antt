@@ -9,9 +9,9 @@ use Rattle.hd_base.specs.declared.numbers.BlockId.{BlockId}
 use Rattle.hd_base.specs.declared.numbers.NodeId.{NodeId}
 use Rattle.hd_base.specs.declared.roads.Roads as roads
 use Rattle.hd_base.specs.declared.roads.TheConstants.{FIRST_PORT}
-use Rattle.pipe_member.specs.declared.member.Member.{Member}
-use Rattle.replica_files.specs.declared.book_state.BookState.{BookState}
-use Rattle.replica_files.specs.Books.{replica_of}
+use Rattle.node_restarts.specs.PipeMember.Member.{Member}
+use Rattle.node_restarts.specs.ReplicaFiles.BookState.{BookState}
+use Rattle.node_restarts.specs.ReplicaFiles.Books.{replica_of}
 use Rattle.road_traffic.specs.Showing.{Net, RoadsShow, EndIs, listened_net}
 use Rattle.world.specs.declared.events.Event.TheVariants as event
 use Rattle.world.specs.declared.events.FoundReplica.{FoundReplica}
@@ -20,17 +20,17 @@ use Rattle.world.specs.Parts as parts
 use Rattle.world.specs.Parts.{FullMember, idle, writes, serves, recovers, ended_below}
 use Rattle.world.specs.Restarts.{found_in, restart, restarted}
 use Rattle.world.specs.Worlds.{World, put}
-use Rattle.world_nets.specs.Nets.{IsRow, IsNetOf, IsEndOf, held_by, is_over}
-use Rattle.world_nets.specs.Rows.{rows_of}
-use Rattle.member_events.specs.Showing.{MirrorShows, NoneReceived}
-use Rattle.play_nodes.specs.declared.connections.Connection.{Connection}
-use Rattle.play_nodes.specs.declared.connections.Lower.{Lower}
-use Rattle.play_nodes.specs.declared.connections.Lower.TheVariants as lower
-use Rattle.play_nodes.specs.declared.nodes.NodeBooks.{NodeBooks}
-use Rattle.play_nodes.specs.declared.nodes.Nodes.{Nodes}
-use Rattle.play_nodes.specs.Places.{book_at, KeepsSizes}
-use Rattle.play_nodes.specs.Showing.{has_events, LowerShows, ConnectionShows, NodesShow, NodesStand, NodesLeft}
-use Rattle.play_model.specs.Dues.{is_open}
+use Rattle.node_restarts.specs.WorldNets.Nets.{IsRow, IsNetOf, IsEndOf, held_by, is_over}
+use Rattle.node_restarts.specs.WorldNets.Rows.{rows_of}
+use Rattle.node_restarts.specs.MemberEvents.Showing.{MirrorShows, NoneReceived}
+use Rattle.node_restarts.specs.PlayNodes.Connection.{Connection}
+use Rattle.node_restarts.specs.PlayNodes.Lower.{Lower}
+use Rattle.node_restarts.specs.PlayNodes.Lower.TheVariants as lower
+use Rattle.node_restarts.specs.PlayNodes.NodeBooks.{NodeBooks}
+use Rattle.node_restarts.specs.PlayNodes.Nodes.{Nodes}
+use Rattle.node_restarts.specs.PlayNodes.Places.{book_at, KeepsSizes}
+use Rattle.node_restarts.specs.PlayNodes.Showing.{has_events, LowerShows, ConnectionShows, NodesShow, NodesStand, NodesLeft}
+use Rattle.node_restarts.specs.PlayModel.Dues.{is_open}
 use Rattle.node_starts.specs.Books.{IsReplaced}
 use Rattle.node_starts.specs.Starting.{CanStart}
 

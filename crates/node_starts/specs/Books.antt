@@ -3,12 +3,12 @@ use Rattle.std.specs.Prelude.{◌≡◌, ◌⊎◌, ℕ, true, false, List, [], 
 use Rattle.hd_base.specs.declared.files.Files as files
 use Rattle.hd_base.specs.declared.numbers.NodeId.{NodeId}
 use Rattle.hd_base.specs.declared.shelves.Shelf as shelves
-use Rattle.replica_files.specs.declared.book_state.BookState.{BookState}
-use Rattle.play_nodes.specs.declared.nodes.NodeBooks.{NodeBooks}
-use Rattle.play_nodes.specs.declared.nodes.Nodes.{Nodes}
-use Rattle.play_nodes.specs.Places.{KeepsSizes}
-use Rattle.node_opening.specs.Closing.{AreLentOut, AreOf}
-use Rattle.node_opening.specs.Shelves.{is_among}
+use Rattle.node_restarts.specs.ReplicaFiles.BookState.{BookState}
+use Rattle.node_restarts.specs.PlayNodes.NodeBooks.{NodeBooks}
+use Rattle.node_restarts.specs.PlayNodes.Nodes.{Nodes}
+use Rattle.node_restarts.specs.PlayNodes.Places.{KeepsSizes}
+use Rattle.node_restarts.specs.NodeOpening.Closing.{AreLentOut, AreOf}
+use Rattle.node_restarts.specs.NodeOpening.Shelves.{is_among}
 use Rattle.node_restarts.specs.Restarting.{TellAll, HasRestarted, AreGivenUp}
 
 -- THE BOOKS OF A NODE

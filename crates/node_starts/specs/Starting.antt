@@ -11,8 +11,8 @@ use Rattle.road_traffic.specs.Showing.{Net, RoadsShow, ResultIs, listened_net}
 use Rattle.world.specs.declared.events.Event.TheVariants as event
 use Rattle.world.specs.Events.{happens}
 use Rattle.world.specs.Worlds.{World}
-use Rattle.play_nodes.specs.declared.nodes.Nodes.{Nodes}
-use Rattle.play_nodes.specs.Showing.{NodesStand, NodesLeft}
+use Rattle.node_restarts.specs.PlayNodes.Nodes.{Nodes}
+use Rattle.node_restarts.specs.PlayNodes.Showing.{NodesStand, NodesLeft}
 use Rattle.node_starts.specs.Books.{NodeTells}
 use Rattle.world_breaks.specs.Breaks.{AllUnbroken}
 use Rattle.node_starts.specs.Lives.{IsLived}

@@ -7,4 +7,6 @@ mod starting;
 
 pub use faults::StartFault;
 pub use laws::dials_are_of_lives_so_far;
+pub use node_restarts::{OpenFault, close_nodes, open_nodes, opened_nodes_close};
 pub use starting::start_node;
+pub use world_breaks::replicas_are_unbroken_without_faults;

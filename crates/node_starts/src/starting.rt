@@ -2,9 +2,9 @@
 
 ghost use Rattle.std.specs.Prelude.{◌≡◌, ◌≤◌, ◌<◌, length, OnOk, OnErr, IfErr};
 ghost use Rattle.hd_base.specs.declared.roads.TheConstants.{MAX_NODES};
-ghost use Rattle.member_events.specs.Roads.{RoadsPass};
-ghost use Rattle.node_opening.specs.Closing.{AreLentOut};
-ghost use Rattle.node_opening.specs.Shelves.{LendsNoMore};
+ghost use Rattle.node_restarts.specs.MemberEvents.Roads.{RoadsPass};
+ghost use Rattle.node_restarts.specs.NodeOpening.Closing.{AreLentOut};
+ghost use Rattle.node_restarts.specs.NodeOpening.Shelves.{LendsNoMore};
 ghost use Rattle.node_starts.specs.Books.{AreBooksOf, IsReplaced, KeepsOthers, HasAllBooks, StartsOver, StopsOver};
 ghost use Rattle.node_starts.specs.Books.{BooksReturn, BooksGo};
 ghost use Rattle.node_starts.specs.Faults.{HasRoadsCause, HasShelfCause, HasStartCause};
@@ -12,9 +12,7 @@ ghost use Rattle.node_starts.specs.Starting.{Listens, StartShows};
 
 use crate::faults::{StartFault, roads_fault, shelf_fault};
 use hd_base::{Files, LinkIn, LinkOut, NodeId, Roads, Shelf};
-use node_restarts::restart_books;
-use play_nodes::Nodes;
-use replica_files::ReplicaBook;
+use node_restarts::{Nodes, ReplicaBook, restart_books};
 use std::alloc::Global;
 use std::mem;
 

@@ -8,11 +8,11 @@ use Rattle.hd_base.specs.declared.links.LinkOut as link_out
 use Rattle.hd_base.specs.declared.numbers.ConnId.{ConnId}
 use Rattle.hd_base.specs.declared.numbers.NodeId.{NodeId}
 use Rattle.road_traffic.specs.Showing.{Net}
-use Rattle.world.specs.Connections.{is_conn, touches, is_of_node}
-use Rattle.world.specs.Parts as parts
-use Rattle.world.specs.Parts.{Place, Dialled, by_writer, by_member, by_reader, by_primary}
-use Rattle.world.specs.Worlds.{World}
-use Rattle.world_laws.specs.Placing.{IsUpper, Placed}
+use Rattle.world_stops.specs.World.Connections.{is_conn, touches, is_of_node}
+use Rattle.world_stops.specs.World.Parts as parts
+use Rattle.world_stops.specs.World.Parts.{Place, Dialled, by_writer, by_member, by_reader, by_primary}
+use Rattle.world_stops.specs.World.Worlds.{World}
+use Rattle.world_stops.specs.WorldLaws.Placing.{IsUpper, Placed}
 use Rattle.world_stops.specs.Origins.{IsFrom, AllAreFrom}
 use Rattle.world_stops.specs.Stopping.{is_among, AreOfNode}
 use Rattle.play_nodes.specs.declared.connections.Connection.{Connection}

@@ -10,9 +10,9 @@ use Rattle.hd_base.specs.declared.links.LinkOut as link_out
 use Rattle.hd_base.specs.declared.numbers.ConnId.{ConnId}
 use Rattle.hd_base.specs.declared.roads.Roads as roads
 use Rattle.road_traffic.specs.Showing.{Net}
-use Rattle.world.specs.Worlds.{World}
-use Rattle.world_cuts.specs.Cutting.{cut_net, cut_world, RoadsCut, CutsRoads, CutsShow, CutsAreLosses, EndsStayInCuts}
-use Rattle.world_nets.specs.Nets.{IsNetOf, IsEndOf}
+use Rattle.world_stops.specs.World.Worlds.{World}
+use Rattle.world_stops.specs.WorldCuts.Cutting.{cut_net, cut_world, RoadsCut, CutsRoads, CutsShow, CutsAreLosses, EndsStayInCuts}
+use Rattle.world_stops.specs.WorldNets.Nets.{IsNetOf, IsEndOf}
 use Rattle.world_stops.specs.Stopping.{all_cut, is_among}
 use Rattle.node_stops.specs.Cutting.{all_cut_net, AllCutShows}
 use Rattle.node_stops.proofs.ConnectionLemmas.{among_more}

@@ -12,15 +12,15 @@ use Rattle.hd_base.specs.declared.links.LinkOut as link_out
 use Rattle.hd_base.specs.declared.numbers.NodeId.{NodeId}
 use Rattle.hd_base.specs.declared.roads.Roads as roads
 use Rattle.link_pieces.specs.Roads.{BringsEnd}
-use Rattle.pipe_member.specs.declared.member.Member.{Member}
-use Rattle.pipe_member.specs.Exchanges.{BringsBoth, BringsMirror}
+use Rattle.play_nodes.specs.PipeMember.Member.{Member}
+use Rattle.play_nodes.specs.PipeMember.Exchanges.{BringsBoth, BringsMirror}
 use Rattle.road_traffic.specs.Laws.{BringsShow}
 use Rattle.road_traffic.specs.Showing.{Net, IsSane, RoadsShow, flushed_net}
-use Rattle.world.specs.Worlds.{World}
-use Rattle.world_nets.specs.Dials.{NetsStaySane}
-use Rattle.world_nets.specs.Ends.{IsElsewhere, EndsElsewhereStay}
-use Rattle.world_nets.specs.Nets.{IsNetOf, IsEndOf, held_by, is_over}
-use Rattle.world_nets.specs.Steps.{IdleFlushesAreNets}
+use Rattle.world_stops.specs.World.Worlds.{World}
+use Rattle.world_stops.specs.WorldNets.Dials.{NetsStaySane}
+use Rattle.world_stops.specs.WorldNets.Ends.{IsElsewhere, EndsElsewhereStay}
+use Rattle.world_stops.specs.WorldNets.Nets.{IsNetOf, IsEndOf, held_by, is_over}
+use Rattle.world_stops.specs.WorldNets.Steps.{IdleFlushesAreNets}
 use Rattle.play_nodes.specs.declared.connections.Connection.{Connection}
 use Rattle.play_nodes.specs.declared.connections.Lower.{Lower}
 use Rattle.play_nodes.specs.declared.connections.Lower.TheVariants as lower

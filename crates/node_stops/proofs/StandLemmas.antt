@@ -10,13 +10,13 @@ use Rattle.hd_base.specs.declared.links.LinkOut as link_out
 use Rattle.hd_base.specs.declared.numbers.NodeId.{NodeId}
 use Rattle.hd_base.specs.declared.roads.Roads as roads
 use Rattle.road_traffic.specs.Showing.{Net}
-use Rattle.world.specs.Parts as parts
-use Rattle.world.specs.Parts.{FullMember, by_writer, by_member, by_reader, by_primary, idle, writes, serves, recovers, ended_below}
-use Rattle.world.specs.Worlds.{World}
-use Rattle.world_nets.specs.Nets.{IsEndOf}
-use Rattle.world_orders.specs.Orders.{IsMirror, MirrorIs, Ordered}
-use Rattle.member_events.specs.Roads.{RoadsPass}
-use Rattle.member_events.specs.Showing.{MirrorShows}
+use Rattle.world_stops.specs.World.Parts as parts
+use Rattle.world_stops.specs.World.Parts.{FullMember, by_writer, by_member, by_reader, by_primary, idle, writes, serves, recovers, ended_below}
+use Rattle.world_stops.specs.World.Worlds.{World}
+use Rattle.world_stops.specs.WorldNets.Nets.{IsEndOf}
+use Rattle.play_nodes.specs.WorldOrders.Orders.{IsMirror, MirrorIs, Ordered}
+use Rattle.play_nodes.specs.MemberEvents.Roads.{RoadsPass}
+use Rattle.play_nodes.specs.MemberEvents.Showing.{MirrorShows}
 use Rattle.play_nodes.specs.declared.connections.Connection.{Connection}
 use Rattle.play_nodes.specs.declared.connections.Lower.{Lower}
 use Rattle.play_nodes.specs.declared.connections.Lower.TheVariants as lower

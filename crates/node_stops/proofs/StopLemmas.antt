@@ -12,22 +12,22 @@ use Rattle.hd_base.specs.declared.numbers.ConnId.{ConnId}
 use Rattle.hd_base.specs.declared.numbers.NodeId.{NodeId}
 use Rattle.hd_base.specs.declared.roads.Roads as roads
 use Rattle.hd_base.specs.declared.roads.TheConstants.{FIRST_PORT}
-use Rattle.pipe_member.specs.declared.member.Member.{Member}
+use Rattle.play_nodes.specs.PipeMember.Member.{Member}
 use Rattle.road_traffic.specs.Showing.{Net}
 use Rattle.road_traffic.proofs.ShowingLemmas.{roads-listened}
-use Rattle.world.specs.declared.events.Event.TheVariants as event
-use Rattle.world.specs.Events.{stop, happens}
-use Rattle.world.specs.Parts as parts
-use Rattle.world.specs.Parts.{FullMember, by_writer, by_member, by_reader, by_primary, idle, writes, serves, recovers, ended_below}
-use Rattle.world.specs.Worlds.{World}
-use Rattle.world_laws.proofs.FactTables.{and-left, and-right}
-use Rattle.world_cuts.specs.Cutting.{cut_world, RoadsCut, CutsAreLosses, EndsStayInCuts}
-use Rattle.world_cuts.proofs.CutLemmas.{over_cut}
-use Rattle.world_nets.specs.Nets.{IsNetOf, IsEndOf, is_over}
-use Rattle.world_orders.specs.Orders.{IsMirror, MirrorIs}
+use Rattle.world_stops.specs.World.Event.TheVariants as event
+use Rattle.world_stops.specs.World.Events.{stop, happens}
+use Rattle.world_stops.specs.World.Parts as parts
+use Rattle.world_stops.specs.World.Parts.{FullMember, by_writer, by_member, by_reader, by_primary, idle, writes, serves, recovers, ended_below}
+use Rattle.world_stops.specs.World.Worlds.{World}
+use Rattle.world_stops.proofs.WorldLaws.FactTables.{and-left, and-right}
+use Rattle.world_stops.specs.WorldCuts.Cutting.{cut_world, RoadsCut, CutsAreLosses, EndsStayInCuts}
+use Rattle.world_stops.proofs.WorldCuts.CutLemmas.{over_cut}
+use Rattle.world_stops.specs.WorldNets.Nets.{IsNetOf, IsEndOf, is_over}
+use Rattle.play_nodes.specs.WorldOrders.Orders.{IsMirror, MirrorIs}
 use Rattle.world_stops.specs.Stopping.{all_cut, is_among, unlistened, StopsNet, StopsAreCuts}
 use Rattle.world_stops.proofs.StopLemmas.{stop_is}
-use Rattle.member_events.specs.Showing.{MirrorShows, NoneReceived}
+use Rattle.play_nodes.specs.MemberEvents.Showing.{MirrorShows, NoneReceived}
 use Rattle.play_nodes.specs.declared.connections.Connection.{Connection}
 use Rattle.play_nodes.specs.declared.connections.Lower.{Lower}
 use Rattle.play_nodes.specs.declared.connections.Lower.TheVariants as lower
@@ -37,7 +37,7 @@ use Rattle.play_nodes.specs.declared.nodes.Nodes.{Nodes}
 use Rattle.play_nodes.specs.Places.{book_at, with_lower}
 use Rattle.play_nodes.specs.Showing.{UpperShows, is_pipeline, has_events, stands_here, LowerShows, ConnectionShows, NodesShow, NodesStand, NodesLeft}
 use Rattle.play_nodes.proofs.NodeFrames.{away_shows}
-use Rattle.play_model.specs.Dues.{is_open}
+use Rattle.play_nodes.specs.PlayModel.Dues.{is_open}
 use Rattle.node_stops.specs.Connections.{is_at}
 use Rattle.node_stops.specs.Cutting.{all_cut_net, AllCutShows}
 use Rattle.node_stops.specs.Ending.{ends_here, is_ended_at, is_ended, is_left_by, is_left, is_gone, EndsStand, EndsLeft, ended_at, AllEnd}

@@ -3,7 +3,7 @@ use Rattle.std.specs.Prelude.{ℕ, ◌≡◌, ◌<◌, true, List, [], ◌∷◌
 use Rattle.hd_base.specs.declared.numbers.ConnId.{ConnId}
 use Rattle.hd_base.specs.declared.roads.Roads as roads
 use Rattle.road_traffic.specs.Showing.{Net, IsSane, RoadsShow}
-use Rattle.world_cuts.specs.Cutting.{cut_net, RoadsCut}
+use Rattle.world_stops.specs.WorldCuts.Cutting.{cut_net, RoadsCut}
 use Rattle.world_stops.specs.Stopping.{is_among}
 
 -- the roads' connections once these were cut

@@ -8,10 +8,10 @@ use Rattle.hd_base.specs.declared.links.LinkOut as link_out
 use Rattle.hd_base.specs.declared.numbers.NodeId.{NodeId}
 use Rattle.hd_base.specs.declared.roads.Roads as roads
 use Rattle.link_pieces.specs.Roads.{BringsEnd}
-use Rattle.pipe_member.specs.Exchanges.{AreKnown, BringsBoth}
+use Rattle.play_nodes.specs.PipeMember.Exchanges.{AreKnown, BringsBoth}
 use Rattle.road_traffic.specs.Showing.{Net, IsSane, RoadsShow}
-use Rattle.world.specs.Worlds.{World}
-use Rattle.world_nets.specs.Nets.{IsNetOf, IsEndOf}
+use Rattle.world_stops.specs.World.Worlds.{World}
+use Rattle.world_stops.specs.WorldNets.Nets.{IsNetOf, IsEndOf}
 use Rattle.play_nodes.specs.declared.connections.Connection.{Connection}
 use Rattle.play_nodes.specs.declared.connections.Lower.{Lower}
 use Rattle.play_nodes.specs.declared.connections.Lower.TheVariants as lower

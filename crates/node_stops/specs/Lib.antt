@@ -2,3 +2,9 @@ pub mod Connections
 pub mod Cutting
 pub mod Ending
 pub mod Stopping
+pub mod MemberEvents
+pub mod PlayNodes
+pub mod WorldCuts
+pub mod WorldNets
+pub mod WorldRequests
+pub mod WorldStops

@@ -6,11 +6,11 @@ use Rattle.hd_base.specs.declared.links.LinkOut as link_out
 use Rattle.hd_base.specs.declared.numbers.NodeId.{NodeId}
 use Rattle.hd_base.specs.declared.roads.Roads as roads
 use Rattle.road_traffic.specs.Showing.{Net}
-use Rattle.world.specs.declared.events.Event.TheVariants as event
-use Rattle.world.specs.Events.{happens}
-use Rattle.world.specs.Worlds.{World}
-use Rattle.world_laws.specs.Placing.{Placed}
-use Rattle.world_orders.specs.Orders.{Ordered}
+use Rattle.world_stops.specs.World.Event.TheVariants as event
+use Rattle.world_stops.specs.World.Events.{happens}
+use Rattle.world_stops.specs.World.Worlds.{World}
+use Rattle.world_stops.specs.WorldLaws.Placing.{Placed}
+use Rattle.play_nodes.specs.WorldOrders.Orders.{Ordered}
 use Rattle.world_stops.specs.Origins.{AllAreFrom}
 use Rattle.play_nodes.specs.declared.nodes.Nodes.{Nodes}
 use Rattle.play_nodes.specs.Showing.{NodesStand, NodesLeft}

@@ -8,7 +8,7 @@ ghost use Rattle.node_stops.specs.Cutting.{AllCutShows};
 use fault_ports::CutRoads;
 use hd_base::ConnId;
 use std::alloc::AllocError;
-use world_cuts::cuts_show;
+use world_stops::cuts_show;
 
 /// Cuts these connections, so that nothing further arrives on them.
 pub(crate) fn cut_all<R: CutRoads>(roads: &mut R, conns: &[ConnId]) -> Result<(), AllocError>

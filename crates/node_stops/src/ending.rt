@@ -11,7 +11,7 @@ use play_nodes::{Connection, Lower, Nodes};
 use road_traffic::brings_show;
 use std::alloc::{AllocError, Global};
 use std::mem;
-use world_nets::{ends_elsewhere_stay, idle_flushes_are_nets, nets_stay_sane};
+use world_stops::{ends_elsewhere_stay, idle_flushes_are_nets, nets_stay_sane};
 
 /// Brings back the lower ends of all connections that a node took, but for those that are kept elsewhere, and the ends of its
 /// members to their mirrors.

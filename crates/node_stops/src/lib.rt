@@ -7,4 +7,9 @@ mod cutting;
 mod ending;
 mod stopping;
 
+pub use play_nodes::{
+    Nodes, NodesFault, nodes_ends_stay, nodes_keep_writers, nodes_stay, requests_are_among,
+    writers_keep_nodes,
+};
 pub use stopping::stop_node;
+pub use world_stops::{cuts_are_losses, cuts_show, dials_have_origins, ends_stay_in_cuts};

@@ -2,7 +2,7 @@
 
 ghost use Rattle.std.specs.Prelude.{◌<◌};
 ghost use Rattle.hd_base.specs.declared.roads.TheConstants.{MAX_NODES};
-ghost use Rattle.member_events.specs.Roads.{RoadsPass};
+ghost use Rattle.play_nodes.specs.MemberEvents.Roads.{RoadsPass};
 ghost use Rattle.play_nodes.specs.Places.{KeepsSizes};
 ghost use Rattle.play_nodes.specs.Showing.{Stand};
 ghost use Rattle.node_stops.specs.Stopping.{StopShows};
@@ -14,8 +14,7 @@ use fault_ports::CutRoads;
 use hd_base::{FIRST_PORT, Files, LinkIn, LinkOut, NodeId};
 use play_nodes::Nodes;
 use std::alloc::{AllocError, Global};
-use world_cuts::{cuts_are_losses, ends_stay_in_cuts};
-use world_stops::stops_are_cuts;
+use world_stops::{cuts_are_losses, ends_stay_in_cuts, stops_are_cuts};
 
 /// Stops a node between two events: nothing further arrives on its connections, nobody listens on its port any more, and
 /// the ends that it had are brought back, but for those that are kept elsewhere. Its books stay with the nodes, as they

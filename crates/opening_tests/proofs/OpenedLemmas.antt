@@ -5,16 +5,16 @@ use Rattle.hd_base.specs.declared.files.Files as files
 use Rattle.hd_base.specs.declared.numbers.BlockId.{BlockId}
 use Rattle.hd_base.specs.declared.numbers.NodeId.{NodeId}
 use Rattle.hd_base.specs.declared.shelves.Shelf as shelves
-use Rattle.play_nodes.specs.declared.nodes.NodeBooks.{NodeBooks}
-use Rattle.play_nodes.specs.declared.nodes.Nodes.{Nodes}
-use Rattle.play_nodes.proofs.PlaceLaws.{same_some}
-use Rattle.play_nodes.proofs.Tables.{element}
-use Rattle.node_opening.specs.Closing.{block_of, blocks_of, AreLentOut}
-use Rattle.node_opening.specs.Lending.{HasBooks}
-use Rattle.node_opening.specs.Opening.{IsOpened}
-use Rattle.node_opening.specs.Shelves.{is_among, AreDistinct}
-use Rattle.node_opening.proofs.CloseLemmas.{block_at, length_blocks}
-use Rattle.node_opening.proofs.ListLemmas.{element_or}
+use Rattle.node_stops.specs.PlayNodes.NodeBooks.{NodeBooks}
+use Rattle.node_stops.specs.PlayNodes.Nodes.{Nodes}
+use Rattle.node_stops.proofs.PlayNodes.PlaceLaws.{same_some}
+use Rattle.node_stops.proofs.PlayNodes.Tables.{element}
+use Rattle.node_starts.specs.NodeOpening.Closing.{block_of, blocks_of, AreLentOut}
+use Rattle.node_starts.specs.NodeOpening.Lending.{HasBooks}
+use Rattle.node_starts.specs.NodeOpening.Opening.{IsOpened}
+use Rattle.node_starts.specs.NodeOpening.Shelves.{is_among, AreDistinct}
+use Rattle.node_starts.proofs.NodeOpening.CloseLemmas.{block_at, length_blocks}
+use Rattle.node_starts.proofs.NodeOpening.ListLemmas.{element_or}
 use Rattle.node_starts.specs.Books.{HasAllBooks}
 
 or_left : (p q : Bool) → p ≡ true → (p || q) ≡ true

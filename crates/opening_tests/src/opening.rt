@@ -1,12 +1,12 @@
 //! Two nodes over memory are opened and closed, and each fault that keeps them from it.
 
 ghost use Rattle.std.specs.Prelude.{IfOk};
-ghost use Rattle.node_opening.specs.Shelves.{AreDistinct};
+ghost use Rattle.node_starts.specs.NodeOpening.Shelves.{AreDistinct};
 
 use hd_base::{BlockId, FileName, Files, NodeId, Shelf};
 use mem_ports::{MemIn, MemOut, MemRoads, MemShelf};
-use node_opening::{OpenFault, close_nodes, open_nodes, opened_nodes_close};
-use play_nodes::Nodes;
+use node_starts::{OpenFault, close_nodes, open_nodes, opened_nodes_close};
+use node_stops::Nodes;
 use std::alloc::{AllocError, Global};
 use std::test::Fail;
 

@@ -3,8 +3,7 @@
 use crate::opening::two_blocks;
 use hd_base::{FIRST_PORT, NodeId, Roads};
 use mem_ports::{MemRoads, MemShelf};
-use node_opening::open_nodes;
-use node_starts::{StartFault, start_node};
+use node_starts::{StartFault, open_nodes, start_node};
 use std::test::Fail;
 
 #[test]

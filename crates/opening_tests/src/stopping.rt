@@ -4,7 +4,7 @@ use crate::opening::two_blocks;
 use fault_ports::Cutting;
 use hd_base::{FIRST_PORT, NodeId, RoadError, Roads};
 use mem_ports::{MemRoads, MemShelf};
-use node_opening::open_nodes;
+use node_starts::open_nodes;
 use node_stops::stop_node;
 use std::test::Fail;
 

@@ -5,7 +5,7 @@ use Rattle.hd_base.specs.declared.numbers.ConnId.{ConnId}
 use Rattle.hd_base.specs.declared.files.Files as files
 use Rattle.hd_base.specs.declared.links.LinkOut as link_out
 use Rattle.hd_base.specs.declared.states.Status.TheVariants as status
-use Rattle.ack_codec.specs.declared.acks.Ack.{Ack}
+use Rattle.member_core.specs.AckCodec.Ack.{Ack}
 use Rattle.replica_core.specs.declared.ack_queue.PendingPacket.{PendingPacket}
 use Rattle.replica_files.specs.declared.book_state.BookState.{BookState}
 use Rattle.member_core.specs.declared.inputs.FromBelow.TheVariants as below

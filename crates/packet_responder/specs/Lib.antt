@@ -1,3 +1,4 @@
 pub mod Sendings
 pub mod Turns
 pub mod Acks
+pub mod ReplicaCore

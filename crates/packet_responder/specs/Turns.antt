@@ -4,11 +4,11 @@ use Rattle.hd_base.specs.Wire.{IsStatus}
 use Rattle.hd_base.specs.declared.numbers.Receipt.{Receipt}
 use Rattle.hd_base.specs.declared.files.Files as files
 use Rattle.hd_base.specs.declared.links.LinkOut as link_out
-use Rattle.ack_codec.specs.AckTexts.{ack_text}
+use Rattle.member_core.specs.AckCodec.AckTexts.{ack_text}
 use Rattle.link_pieces.specs.Pieces.{SendsNothing}
 use Rattle.replica_core.specs.declared.events.Event.{Event}
 use Rattle.replica_core.specs.declared.events.Event.TheVariants as event
-use Rattle.replica_model.specs.declared.events.ReplicaEvent.TheVariants as replica_event
+use Rattle.member_core.specs.ReplicaModel.ReplicaEvent.TheVariants as replica_event
 use Rattle.replica_files.specs.declared.book_state.BookState.{BookState}
 use Rattle.replica_files.specs.Endings.{BookEnds}
 use Rattle.member_core.specs.declared.effects.Shuts.{Shuts}

@@ -5,9 +5,8 @@ ghost use Rattle.packet_responder.specs.Acks.{IsDue, IsListed, TakesAck, streami
 
 use crate::answers::turn_at;
 use crate::turns::{Passed, take_turn};
-use ack_codec::Ack;
 use hd_base::{ConnId, Files, LinkOut};
-use member_core::MAX_BELOW;
+use member_core::{Ack, MAX_BELOW};
 use replica_files::ReplicaBook;
 use std::alloc::Global;
 

@@ -20,11 +20,11 @@ ghost use Rattle.packet_responder.specs.Turns.{IsAnswer, MaySend};
 
 use crate::acks::FromBelow;
 use crate::replies::{begins_with_bad_sum, failures, is_read, with_own};
-use ack_codec::{Ack, Replies};
 use hd_base::{ConnId, Status};
-use member_core::{Effect, MAX_BELOW, Mirror, Shuts, Side, Turn, Upward};
+use member_core::{
+    Ack, Effect, MAX_BELOW, Mirror, ReplicaEvent, Replies, Shuts, Side, Turn, Upward,
+};
 use replica_core::{Event, PendingPacket};
-use replica_model::ReplicaEvent;
 
 /// The turn at what comes from below, where this is the oldest pending packet. `None` where nothing is due.
 pub(crate) fn turn_at(

@@ -11,5 +11,6 @@ mod turns;
 
 pub use acks::{FromBelow, take_ack};
 pub use laws::acks_follow_the_member;
+pub use replica_core::{Event, Refusal};
 pub use sendings::{Sending, book_and_send, book_event, sending_as};
 pub use turns::{Passed, take_turn};

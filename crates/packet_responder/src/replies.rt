@@ -3,8 +3,8 @@
 ghost use Rattle.std.specs.Prelude.{◌≡◌, ◌<◌, length};
 ghost use Rattle.member_core.specs.Acks.{is_success, failures, begins_with_bad_sum, are_replies, is_read, with_own};
 
-use ack_codec::{Ack, MAX_REPLIES, Replies};
 use hd_base::Status;
+use member_core::{Ack, MAX_REPLIES, Replies};
 
 /// Whether a reply is SUCCESS.
 fn is_success(status: Status) -> bool

@@ -1,7 +1,7 @@
 //! What is booked is sent.
 
 ghost use Rattle.std.specs.Prelude.{◌≡◌};
-ghost use Rattle.replica_model.specs.declared.events.ReplicaEvent.TheVariants as ReplicaEvent;
+ghost use Rattle.member_core.specs.ReplicaModel.ReplicaEvent.TheVariants as ReplicaEvent;
 ghost use Rattle.replica_files.specs.Endings.{BookEnds};
 ghost use Rattle.packet_responder.specs.Sendings.{IsAnswering, booked_in, sending_as, SendsUp};
 

@@ -2,19 +2,17 @@
 
 ghost use Rattle.std.specs.Prelude.{◌≡◌, All, Some};
 ghost use Rattle.hd_base.specs.Wire.{IsStatus};
-ghost use Rattle.ack_codec.specs.AckTexts.{ack_text};
-ghost use Rattle.replica_model.specs.declared.events.ReplicaEvent.TheVariants as ReplicaEvent;
+ghost use Rattle.member_core.specs.AckCodec.AckTexts.{ack_text};
+ghost use Rattle.member_core.specs.ReplicaModel.ReplicaEvent.TheVariants as ReplicaEvent;
 ghost use Rattle.replica_files.specs.Endings.{BookEnds};
 ghost use Rattle.packet_responder.specs.Sendings.{IsAnswering, booked_in, SendsUp};
 ghost use Rattle.packet_responder.specs.Turns.{IsAnswer, MaySend, PassEnds, SendsTurn, passed_as, done_as, is_good};
 
 use crate::sendings::{Sending, book_and_send, book_event, sending_as};
-use ack_codec::{Ack, AckBytes, encode_ack};
 use hd_base::{Files, LinkOut, Receipt};
-use member_core::{Shuts, Turn, Upward};
+use member_core::{Ack, AckBytes, ReplicaEvent, Shuts, Turn, Upward, encode_ack};
 use replica_core::{Event, Refusal};
 use replica_files::ReplicaBook;
-use replica_model::ReplicaEvent;
 use std::alloc::Global;
 
 /// How an ack was taken, or what was due. The receipt names the entry of the book.

@@ -12,9 +12,9 @@ use Rattle.proto_fields.specs.Values.{picked, last_of, last_part, part_bytes, va
 use Rattle.proto_fields.specs.Writing.{varint_field, bytes_field, tag_text}
 use Rattle.proto_fields.specs.declared.reading.Wire.{Wire}
 use Rattle.proto_fields.specs.declared.reading.Wire.TheVariants as wire
-use Rattle.ack_codec.specs.declared.responses.Response.{Response}
-use Rattle.ack_codec.specs.Responses.{SaysResponse, decoded_parts}
-use Rattle.ack_codec.specs.ResponseTexts.{response_message, response_text, body_text, reason_text}
+use Rattle.pipe_setup.specs.AckCodec.Response.{Response}
+use Rattle.pipe_setup.specs.AckCodec.Responses.{SaysResponse, decoded_parts}
+use Rattle.pipe_setup.specs.AckCodec.ResponseTexts.{response_message, response_text, body_text, reason_text}
 use Rattle.op_headers.specs.Paths.{Path, below, both}
 use Rattle.op_headers.specs.Tables.{Below, uint32, Required, number_of, texts_under, decoded_field, decoded_message, more, EachSays, Says, DecodedFields}
 use Rattle.op_headers.specs.Formats.{write_format, write_from, node_format, node_from, identity_format, identity_table, identity_from}
@@ -23,11 +23,11 @@ use Rattle.op_headers.specs.declared.nodes.NodeRef.{NodeRef}
 use Rattle.replica_core.specs.Refusals.{refusal_number}
 use Rattle.replica_core.specs.declared.refusals.Refusal.{Refusal}
 use Rattle.replica_core.specs.declared.refusals.Refusal.TheVariants as refusal
-use Rattle.request_refusals.specs.declared.refusals.RequestRefusal.{RequestRefusal}
-use Rattle.request_refusals.specs.declared.refusals.RequestRefusal.TheVariants as request
-use Rattle.request_refusals.specs.Texts.{request_refusal_number, refusal_text, values_text, spaced}
-use Rattle.member_core.specs.declared.effects.SetupAnswer.TheVariants as answer
-use Rattle.member_core.specs.Requests.{response_of, failing, first_address}
+use Rattle.pipe_setup.specs.RequestRefusals.RequestRefusal.{RequestRefusal}
+use Rattle.pipe_setup.specs.RequestRefusals.RequestRefusal.TheVariants as request
+use Rattle.pipe_setup.specs.RequestRefusals.Texts.{request_refusal_number, refusal_text, values_text, spaced}
+use Rattle.pipe_setup.specs.MemberCore.SetupAnswer.TheVariants as answer
+use Rattle.pipe_setup.specs.MemberCore.Requests.{response_of, failing, first_address}
 use Rattle.pipe_turns.specs.Acting.{sized_response}
 use Rattle.pipe_member.specs.Answering.{IsWritten, IsRead, UnreachedIsWritten, BelowIsWritten, max_values}
 use Rattle.pipe_member.proofs.FieldSizes.{sized, least_of, all_sizes, there, picks_varint, picks_part, picks_number, part_size, trans_le, cut_size, text_size, joined_size, first_size}

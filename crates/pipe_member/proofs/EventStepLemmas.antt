@@ -5,16 +5,16 @@ use Rattle.hd_base.specs.declared.files.Files as files
 use Rattle.hd_base.specs.declared.links.LinkIn as link_in
 use Rattle.hd_base.specs.declared.links.LinkOut as link_out
 use Rattle.replica_core.specs.declared.records.ReplicaRecord.{ReplicaRecord}
-use Rattle.replica_model.specs.Rows.{FullReplica}
-use Rattle.replica_files.specs.declared.book_state.BookState.{BookState}
-use Rattle.replica_files.specs.Books.{replica_of}
-use Rattle.member_core.specs.declared.effects.Shuts.{Shuts}
-use Rattle.member_core.specs.declared.effects.Shuts.TheVariants as shuts
-use Rattle.member_core.specs.declared.inputs.FromBelow.{FromBelow}
-use Rattle.member_core.specs.declared.turns.Booked.TheVariants as booked
-use Rattle.member_core.specs.declared.turns.Turn.{Turn}
-use Rattle.member_core.specs.Members.{MemberState, hears, down_turn, up_turn, ready_turn_by}
-use Rattle.member_core.specs.Steps.{outcome_of, oldest_at}
+use Rattle.pipe_setup.specs.ReplicaModel.Rows.{FullReplica}
+use Rattle.pipe_setup.specs.ReplicaFiles.BookState.{BookState}
+use Rattle.pipe_setup.specs.ReplicaFiles.Books.{replica_of}
+use Rattle.pipe_setup.specs.MemberCore.Shuts.{Shuts}
+use Rattle.pipe_setup.specs.MemberCore.Shuts.TheVariants as shuts
+use Rattle.pipe_setup.specs.MemberCore.FromBelow.{FromBelow}
+use Rattle.pipe_setup.specs.MemberCore.Booked.TheVariants as booked
+use Rattle.pipe_setup.specs.MemberCore.Turn.{Turn}
+use Rattle.pipe_setup.specs.MemberCore.Members.{MemberState, hears, down_turn, up_turn, ready_turn_by}
+use Rattle.pipe_setup.specs.MemberCore.Steps.{outcome_of, oldest_at}
 use Rattle.pipe_turns.specs.Acting.{ShutsMirror}
 use Rattle.pipe_member.specs.declared.member.Member.{Member}
 use Rattle.pipe_member.specs.declared.stages.Looked.{Looked}

@@ -11,3 +11,5 @@ pub mod SizeLemmas
 pub mod SteppingLemmas
 pub mod TakeLemmas
 pub mod TurnLaws
+pub mod PipeSetup
+pub mod ReplicaFiles

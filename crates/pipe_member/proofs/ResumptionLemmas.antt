@@ -10,13 +10,13 @@ use Rattle.link_pieces.specs.Pieces.{SendsNothing}
 use Rattle.op_headers.specs.Values.{WriteFields}
 use Rattle.replica_core.specs.declared.events.Event.{Event}
 use Rattle.replica_core.specs.Transitions.{transition}
-use Rattle.replica_model.specs.declared.events.ReplicaEvent.TheVariants as replica_event
-use Rattle.replica_files.specs.Endings.{BookEnds}
-use Rattle.replica_files.specs.declared.book_state.BookState.{BookState}
-use Rattle.replica_files.specs.Books.{replica_of}
-use Rattle.member_core.specs.declared.effects.Shuts.{Shuts}
-use Rattle.member_core.specs.declared.effects.Shuts.TheVariants as shuts
-use Rattle.member_core.specs.Members.{MemberState, set_up}
+use Rattle.pipe_setup.specs.ReplicaModel.ReplicaEvent.TheVariants as replica_event
+use Rattle.pipe_setup.specs.ReplicaFiles.Endings.{BookEnds}
+use Rattle.pipe_setup.specs.ReplicaFiles.BookState.{BookState}
+use Rattle.pipe_setup.specs.ReplicaFiles.Books.{replica_of}
+use Rattle.pipe_setup.specs.MemberCore.Shuts.{Shuts}
+use Rattle.pipe_setup.specs.MemberCore.Shuts.TheVariants as shuts
+use Rattle.pipe_setup.specs.MemberCore.Members.{MemberState, set_up}
 use Rattle.pipe_setup.specs.declared.refusals.SetupRefusal.TheVariants as setup_refusal
 use Rattle.pipe_setup.specs.declared.setups.Setup as local
 use Rattle.pipe_setup.specs.declared.setups.Setup.TheVariants as setup

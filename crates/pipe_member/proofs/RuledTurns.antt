@@ -7,24 +7,24 @@ use Rattle.replica_core.specs.declared.ack_queue.TheConstants.{MAX_PENDING}
 use Rattle.replica_core.specs.declared.refusals.Refusal.{Refusal}
 use Rattle.replica_core.specs.declared.refusals.Refusal.TheVariants as refusal
 use Rattle.replica_core.specs.declared.records.ReplicaRecord.{ReplicaRecord}
-use Rattle.replica_model.specs.declared.events.ReplicaEvent.{ReplicaEvent}
-use Rattle.replica_model.specs.declared.events.ReplicaEvent.TheVariants as replica_event
-use Rattle.member_core.specs.declared.effects.Effect.{Effect}
-use Rattle.member_core.specs.declared.effects.Shuts.{Shuts}
-use Rattle.member_core.specs.declared.effects.Shuts.TheVariants as shuts
-use Rattle.member_core.specs.declared.inputs.FromAbove.{FromAbove}
-use Rattle.member_core.specs.declared.inputs.FromAbove.TheVariants as above
-use Rattle.member_core.specs.declared.inputs.FromBelow.{FromBelow}
-use Rattle.member_core.specs.declared.inputs.FromBelow.TheVariants as below
-use Rattle.member_core.specs.declared.member.Mirror.{Mirror}
-use Rattle.member_core.specs.declared.member.Mirror.TheVariants as mirror
-use Rattle.member_core.specs.declared.turns.Booked.{Booked}
-use Rattle.member_core.specs.declared.turns.Booked.TheVariants as booked
-use Rattle.member_core.specs.declared.turns.Side.{Side}
-use Rattle.member_core.specs.declared.turns.Side.TheVariants as side
-use Rattle.member_core.specs.declared.turns.Turn.{Turn}
-use Rattle.member_core.specs.Acks.{is_success, failures, begins_with_bad_sum, is_read, with_own}
-use Rattle.member_core.specs.Members.{MemberState, has_mirror, closed, closed_by, settled, refused_turn, bad_sum, down_turn, setup_turn, pass_turn, failed_turn, ack_turn, stream_turn, up_at, up_turn, idle_turn, quiet_turn, patient_turn, ready_at, ready_turn_by}
+use Rattle.pipe_setup.specs.ReplicaModel.ReplicaEvent.{ReplicaEvent}
+use Rattle.pipe_setup.specs.ReplicaModel.ReplicaEvent.TheVariants as replica_event
+use Rattle.pipe_setup.specs.MemberCore.Effect.{Effect}
+use Rattle.pipe_setup.specs.MemberCore.Shuts.{Shuts}
+use Rattle.pipe_setup.specs.MemberCore.Shuts.TheVariants as shuts
+use Rattle.pipe_setup.specs.MemberCore.FromAbove.{FromAbove}
+use Rattle.pipe_setup.specs.MemberCore.FromAbove.TheVariants as above
+use Rattle.pipe_setup.specs.MemberCore.FromBelow.{FromBelow}
+use Rattle.pipe_setup.specs.MemberCore.FromBelow.TheVariants as below
+use Rattle.pipe_setup.specs.MemberCore.Mirror.{Mirror}
+use Rattle.pipe_setup.specs.MemberCore.Mirror.TheVariants as mirror
+use Rattle.pipe_setup.specs.MemberCore.Booked.{Booked}
+use Rattle.pipe_setup.specs.MemberCore.Booked.TheVariants as booked
+use Rattle.pipe_setup.specs.MemberCore.Side.{Side}
+use Rattle.pipe_setup.specs.MemberCore.Side.TheVariants as side
+use Rattle.pipe_setup.specs.MemberCore.Turn.{Turn}
+use Rattle.pipe_setup.specs.MemberCore.Acks.{is_success, failures, begins_with_bad_sum, is_read, with_own}
+use Rattle.pipe_setup.specs.MemberCore.Members.{MemberState, has_mirror, closed, closed_by, settled, refused_turn, bad_sum, down_turn, setup_turn, pass_turn, failed_turn, ack_turn, stream_turn, up_at, up_turn, idle_turn, quiet_turn, patient_turn, ready_at, ready_turn_by}
 use Rattle.pipe_turns.specs.Turning.{CanBook}
 use Rattle.pipe_member.specs.Stepping.{IsOfRules}
 

@@ -4,11 +4,11 @@ use Rattle.hd_base.specs.declared.numbers.ConnId.{ConnId}
 use Rattle.op_headers.specs.Values.{WriteFields}
 use Rattle.replica_core.specs.declared.refusals.Refusal.{Refusal}
 use Rattle.replica_core.specs.Transitions.{Outcome}
-use Rattle.request_refusals.specs.declared.refusals.RequestRefusal.TheVariants as request
-use Rattle.member_core.specs.declared.effects.Effect.{Effect}
-use Rattle.member_core.specs.declared.member.Mirror.{Mirror}
-use Rattle.member_core.specs.declared.member.Mirror.TheVariants as mirror
-use Rattle.member_core.specs.Members.{MemberState, set_up, set_up_at, mirror_for, refused_setup}
+use Rattle.pipe_setup.specs.RequestRefusals.RequestRefusal.TheVariants as request
+use Rattle.pipe_setup.specs.MemberCore.Effect.{Effect}
+use Rattle.pipe_setup.specs.MemberCore.Mirror.{Mirror}
+use Rattle.pipe_setup.specs.MemberCore.Mirror.TheVariants as mirror
+use Rattle.pipe_setup.specs.MemberCore.Members.{MemberState, set_up, set_up_at, mirror_for, refused_setup}
 use Rattle.pipe_turns.specs.Acting.{texts_of}
 use Rattle.pipe_turns.specs.Turning.{IsListed}
 use Rattle.pipe_member.specs.Refusing.{refused_in}

@@ -19,23 +19,23 @@ use Rattle.replica_core.specs.declared.records.ReplicaRecord.{ReplicaRecord}
 use Rattle.replica_core.specs.declared.refusals.Refusal.{Refusal}
 use Rattle.replica_core.specs.Transitions.{Outcome, transition, reply, answer_of}
 use Rattle.replica_core.specs.Views.{rule_in}
-use Rattle.replica_model.specs.declared.events.ReplicaEvent.TheVariants as replica_event
-use Rattle.replica_model.specs.Rows.{FullReplica, row, row_answer}
-use Rattle.replica_files.specs.declared.book_state.BookState.{BookState}
-use Rattle.replica_files.specs.Books.{replica_of}
-use Rattle.replica_files.specs.Endings.{BookEnds}
-use Rattle.replica_files.specs.declared.faults.BookFault.TheVariants as fault
-use Rattle.replica_files.proofs.BookLemmas.{noted}
-use Rattle.replica_files.proofs.StepLemmas.{is_refused}
-use Rattle.request_refusals.specs.declared.refusals.RequestRefusal.{RequestRefusal}
-use Rattle.request_refusals.specs.declared.refusals.RequestRefusal.TheVariants as request
-use Rattle.member_core.specs.declared.effects.Effect.{Effect}
-use Rattle.member_core.specs.declared.effects.Shuts.{Shuts}
-use Rattle.member_core.specs.declared.effects.Shuts.TheVariants as shuts
-use Rattle.member_core.specs.declared.effects.Upward.{Upward}
-use Rattle.member_core.specs.Members.{MemberState, set_up, set_up_at, mirror_for, refused_setup}
-use Rattle.member_core.specs.Requests.{request_event}
-use Rattle.member_core.specs.Steps.{Setup, request_at, booked_request, refused_request, taken_request, request_step, refused_by}
+use Rattle.pipe_setup.specs.ReplicaModel.ReplicaEvent.TheVariants as replica_event
+use Rattle.pipe_setup.specs.ReplicaModel.Rows.{FullReplica, row, row_answer}
+use Rattle.pipe_setup.specs.ReplicaFiles.BookState.{BookState}
+use Rattle.pipe_setup.specs.ReplicaFiles.Books.{replica_of}
+use Rattle.pipe_setup.specs.ReplicaFiles.Endings.{BookEnds}
+use Rattle.pipe_setup.specs.ReplicaFiles.BookFault.TheVariants as fault
+use Rattle.pipe_setup.proofs.ReplicaFiles.BookLemmas.{noted}
+use Rattle.pipe_setup.proofs.ReplicaFiles.StepLemmas.{is_refused}
+use Rattle.pipe_setup.specs.RequestRefusals.RequestRefusal.{RequestRefusal}
+use Rattle.pipe_setup.specs.RequestRefusals.RequestRefusal.TheVariants as request
+use Rattle.pipe_setup.specs.MemberCore.Effect.{Effect}
+use Rattle.pipe_setup.specs.MemberCore.Shuts.{Shuts}
+use Rattle.pipe_setup.specs.MemberCore.Shuts.TheVariants as shuts
+use Rattle.pipe_setup.specs.MemberCore.Upward.{Upward}
+use Rattle.pipe_setup.specs.MemberCore.Members.{MemberState, set_up, set_up_at, mirror_for, refused_setup}
+use Rattle.pipe_setup.specs.MemberCore.Requests.{request_event}
+use Rattle.pipe_setup.specs.MemberCore.Steps.{Setup, request_at, booked_request, refused_request, taken_request, request_step, refused_by}
 use Rattle.pipe_setup.specs.declared.refusals.SetupRefusal.TheVariants as setup_refusal
 use Rattle.pipe_setup.specs.declared.setups.Setup as local
 use Rattle.pipe_setup.specs.declared.setups.Setup.TheVariants as setup

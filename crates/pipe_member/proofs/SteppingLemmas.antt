@@ -23,32 +23,32 @@ use Rattle.replica_core.specs.Refusals.{check}
 use Rattle.replica_core.specs.Info.{state_of, is_writable}
 use Rattle.replica_core.specs.Extents.{stream_after, heartbeat_of, pending_of}
 use Rattle.std.specs.Ordering.{int_eq}
-use Rattle.replica_model.specs.declared.events.ReplicaEvent.{ReplicaEvent}
-use Rattle.replica_model.specs.declared.events.ReplicaEvent.TheVariants as replica_event
-use Rattle.replica_model.specs.Rows.{FullReplica, event_at, row, row_answer, broken}
-use Rattle.replica_files.specs.declared.book_state.BookState.{BookState}
-use Rattle.replica_files.specs.declared.faults.BookFault.{BookFault}
-use Rattle.replica_files.specs.declared.faults.BookFault.TheVariants as fault
-use Rattle.replica_files.specs.Books.{IsBookOf, Takes, replica_of}
-use Rattle.replica_files.specs.Endings.{BookEnds}
-use Rattle.replica_files.proofs.BookLemmas.{noted}
-use Rattle.block_receiver.specs.declared.packets.Taken.{Taken}
-use Rattle.block_receiver.specs.declared.packets.Taken.TheVariants as taken
-use Rattle.block_receiver.specs.Packets as receiving
-use Rattle.packet_responder.specs.declared.sendings.Sending.{Sending}
-use Rattle.packet_responder.specs.declared.sendings.Sending.TheVariants as sending
-use Rattle.packet_responder.specs.Sendings as responding
-use Rattle.member_core.specs.declared.effects.Effect.{Effect}
-use Rattle.member_core.specs.declared.effects.Shuts.{Shuts}
-use Rattle.member_core.specs.declared.effects.Shuts.TheVariants as shuts
-use Rattle.member_core.specs.declared.effects.Upward.{Upward}
-use Rattle.member_core.specs.declared.member.Mirror.{Mirror}
-use Rattle.member_core.specs.declared.turns.Booked.{Booked}
-use Rattle.member_core.specs.declared.turns.Booked.TheVariants as booked
-use Rattle.member_core.specs.declared.turns.Side.{Side}
-use Rattle.member_core.specs.declared.turns.Turn.{Turn}
-use Rattle.member_core.specs.Members.{MemberState, settled, refused_turn, turn_of}
-use Rattle.member_core.specs.Steps.{Step, step, faulted_step, with_replica, booked_as, outcome_of, replica_after}
+use Rattle.pipe_setup.specs.ReplicaModel.ReplicaEvent.{ReplicaEvent}
+use Rattle.pipe_setup.specs.ReplicaModel.ReplicaEvent.TheVariants as replica_event
+use Rattle.pipe_setup.specs.ReplicaModel.Rows.{FullReplica, event_at, row, row_answer, broken}
+use Rattle.pipe_setup.specs.ReplicaFiles.BookState.{BookState}
+use Rattle.pipe_setup.specs.ReplicaFiles.BookFault.{BookFault}
+use Rattle.pipe_setup.specs.ReplicaFiles.BookFault.TheVariants as fault
+use Rattle.pipe_setup.specs.ReplicaFiles.Books.{IsBookOf, Takes, replica_of}
+use Rattle.pipe_setup.specs.ReplicaFiles.Endings.{BookEnds}
+use Rattle.pipe_setup.proofs.ReplicaFiles.BookLemmas.{noted}
+use Rattle.pipe_turns.specs.BlockReceiver.Taken.{Taken}
+use Rattle.pipe_turns.specs.BlockReceiver.Taken.TheVariants as taken
+use Rattle.pipe_turns.specs.BlockReceiver.Packets as receiving
+use Rattle.pipe_turns.specs.PacketResponder.Sending.{Sending}
+use Rattle.pipe_turns.specs.PacketResponder.Sending.TheVariants as sending
+use Rattle.pipe_turns.specs.PacketResponder.Sendings as responding
+use Rattle.pipe_setup.specs.MemberCore.Effect.{Effect}
+use Rattle.pipe_setup.specs.MemberCore.Shuts.{Shuts}
+use Rattle.pipe_setup.specs.MemberCore.Shuts.TheVariants as shuts
+use Rattle.pipe_setup.specs.MemberCore.Upward.{Upward}
+use Rattle.pipe_setup.specs.MemberCore.Mirror.{Mirror}
+use Rattle.pipe_setup.specs.MemberCore.Booked.{Booked}
+use Rattle.pipe_setup.specs.MemberCore.Booked.TheVariants as booked
+use Rattle.pipe_setup.specs.MemberCore.Side.{Side}
+use Rattle.pipe_setup.specs.MemberCore.Turn.{Turn}
+use Rattle.pipe_setup.specs.MemberCore.Members.{MemberState, settled, refused_turn, turn_of}
+use Rattle.pipe_setup.specs.MemberCore.Steps.{Step, step, faulted_step, with_replica, booked_as, outcome_of, replica_after}
 use Rattle.pipe_turns.specs.Turning.{CanBook, Performs, PerformsAlone, PerformsPacket, PerformsEvent, PassesEnd, SendsText, SendsAlone, packet_done, sending_done}
 use Rattle.pipe_turns.specs.Acting.{Acts, FollowsAs, ShutsEnd, ShutsMirror, booked_of, texts_of, shuts_up, shuts_below, with_half}
 use Rattle.pipe_turns.specs.declared.turning.Done.{Done}

@@ -4,20 +4,20 @@ use Rattle.std.proofs.lemmas.Bool.Decides.{nat_tests}
 use Rattle.hd_base.specs.declared.links.LinkIn as link_in
 use Rattle.packet_codec.specs.declared.packets.Packet.{Packet}
 use Rattle.packet_codec.specs.Packets.{SpellsPacket}
-use Rattle.ack_codec.specs.declared.acks.Ack.{Ack}
-use Rattle.ack_codec.specs.declared.responses.Response.{Response}
+use Rattle.pipe_setup.specs.AckCodec.Ack.{Ack}
+use Rattle.pipe_setup.specs.AckCodec.Response.{Response}
 use Rattle.frame_feed.specs.declared.packet_frames.PacketFrame.{PacketFrame}
 use Rattle.frame_feed.specs.Kinds.{packets, packet_frames, acks}
 use Rattle.link_messages.specs.declared.incoming.Next.{Next}
 use Rattle.link_messages.specs.declared.incoming.Next.TheVariants as came
 use Rattle.link_messages.specs.Incomings.{IncomingState, Comes, Finds, FindsNone, IsNone, NextEnds}
 use Rattle.replica_core.specs.declared.ack_queue.TheConstants.{MAX_PENDING}
-use Rattle.member_core.specs.declared.inputs.FromAbove.{FromAbove}
-use Rattle.member_core.specs.declared.inputs.FromAbove.TheVariants as from_above
-use Rattle.member_core.specs.declared.inputs.FromBelow.TheVariants as from_below
-use Rattle.member_core.specs.declared.member.Mirror.{Mirror}
-use Rattle.member_core.specs.declared.member.Mirror.TheVariants as mirror
-use Rattle.member_core.specs.Members.{MemberState, takes_messages, is_waiting, down_turn, up_at, up_turn}
+use Rattle.pipe_setup.specs.MemberCore.FromAbove.{FromAbove}
+use Rattle.pipe_setup.specs.MemberCore.FromAbove.TheVariants as from_above
+use Rattle.pipe_setup.specs.MemberCore.FromBelow.TheVariants as from_below
+use Rattle.pipe_setup.specs.MemberCore.Mirror.{Mirror}
+use Rattle.pipe_setup.specs.MemberCore.Mirror.TheVariants as mirror
+use Rattle.pipe_setup.specs.MemberCore.Members.{MemberState, takes_messages, is_waiting, down_turn, up_at, up_turn}
 use Rattle.pipe_turns.specs.Turning.{CanBook, IsListed, IsSpelled}
 use Rattle.pipe_member.specs.Above.{IsSpelledBy, above_of, without_text, text_of, may_take, due_above}
 use Rattle.pipe_member.specs.Below.{IsListedNext, answer_of, ack_of}

@@ -3,11 +3,11 @@ use Rattle.std.proofs.Common.{◌≡◌, false, Option, Some, None, IsSome, opti
 use Rattle.hd_base.specs.declared.ends.Conn.{Conn}
 use Rattle.hd_base.specs.declared.files.Files as files
 use Rattle.hd_base.specs.declared.links.LinkOut as link_out
-use Rattle.replica_files.specs.declared.book_state.BookState.{BookState}
-use Rattle.member_core.specs.declared.effects.Shuts.{Shuts}
-use Rattle.member_core.specs.declared.effects.Shuts.TheVariants as shuts
-use Rattle.member_core.specs.declared.turns.Turn.{Turn}
-use Rattle.member_core.specs.Members.{MemberState}
+use Rattle.pipe_setup.specs.ReplicaFiles.BookState.{BookState}
+use Rattle.pipe_setup.specs.MemberCore.Shuts.{Shuts}
+use Rattle.pipe_setup.specs.MemberCore.Shuts.TheVariants as shuts
+use Rattle.pipe_setup.specs.MemberCore.Turn.{Turn}
+use Rattle.pipe_setup.specs.MemberCore.Members.{MemberState}
 use Rattle.pipe_turns.specs.declared.turning.Done.{Done}
 use Rattle.pipe_turns.specs.declared.turning.Done.TheVariants as done
 use Rattle.pipe_turns.specs.Acting.{texts_of, ShutsMirror}

@@ -8,9 +8,9 @@ use Rattle.frame_feed.specs.Kinds.{packets}
 use Rattle.link_messages.specs.declared.incoming.Next.{Next}
 use Rattle.link_messages.specs.declared.incoming.Next.TheVariants as came
 use Rattle.link_messages.specs.Incomings.{IncomingState, nothing_received, NextEnds}
-use Rattle.member_core.specs.declared.inputs.FromAbove.{FromAbove}
-use Rattle.member_core.specs.declared.inputs.FromAbove.TheVariants as from_above
-use Rattle.member_core.specs.Members.{MemberState, takes_messages}
+use Rattle.pipe_setup.specs.MemberCore.FromAbove.{FromAbove}
+use Rattle.pipe_setup.specs.MemberCore.FromAbove.TheVariants as from_above
+use Rattle.pipe_setup.specs.MemberCore.Members.{MemberState, takes_messages}
 use Rattle.pipe_turns.specs.declared.turning.Done.{Done}
 use Rattle.pipe_turns.specs.declared.turning.Done.TheVariants as done
 use Rattle.pipe_member.specs.declared.stages.Looked.{Looked}

@@ -1,14 +1,14 @@
 -- A member's answer to a request is never too long to be written.
 use Rattle.std.specs.Prelude.{◌≡◌, ℕ, ◌≤◌, List, length, Some, Ok}
 use Rattle.proto_fields.specs.Frames.{limit}
-use Rattle.ack_codec.specs.declared.responses.Response.{Response}
-use Rattle.ack_codec.specs.Responses.{SaysResponse}
-use Rattle.ack_codec.specs.ResponseTexts.{response_text}
+use Rattle.pipe_setup.specs.AckCodec.Response.{Response}
+use Rattle.pipe_setup.specs.AckCodec.Responses.{SaysResponse}
+use Rattle.pipe_setup.specs.AckCodec.ResponseTexts.{response_text}
 use Rattle.op_headers.specs.Values.{WriteFields}
 use Rattle.op_headers.specs.Formats.{write_format}
-use Rattle.member_core.specs.declared.effects.SetupAnswer.{SetupAnswer}
-use Rattle.member_core.specs.declared.effects.SetupAnswer.TheVariants as answer
-use Rattle.member_core.specs.Requests.{response_of}
+use Rattle.pipe_setup.specs.MemberCore.SetupAnswer.{SetupAnswer}
+use Rattle.pipe_setup.specs.MemberCore.SetupAnswer.TheVariants as answer
+use Rattle.pipe_setup.specs.MemberCore.Requests.{response_of}
 use Rattle.pipe_turns.specs.Acting.{answer_text}
 
 -- The answer goes up as the response that it is.

@@ -2,14 +2,14 @@
 use Rattle.std.specs.Prelude.{◌≡◌, Bool, true, false, Option, Some, None}
 use Rattle.hd_base.specs.declared.ends.Conn.{Conn}
 use Rattle.hd_base.specs.declared.links.LinkIn as link_in
-use Rattle.ack_codec.specs.declared.acks.Ack.{Ack}
-use Rattle.ack_codec.specs.declared.responses.Response.{Response}
+use Rattle.pipe_setup.specs.AckCodec.Ack.{Ack}
+use Rattle.pipe_setup.specs.AckCodec.Response.{Response}
 use Rattle.frame_feed.specs.Kinds.{acks, responses}
 use Rattle.link_messages.specs.declared.incoming.Next.{Next}
 use Rattle.link_messages.specs.declared.incoming.Next.TheVariants as came
 use Rattle.link_messages.specs.Incomings.{IncomingState, nothing_received, NextEnds}
-use Rattle.member_core.specs.declared.inputs.FromBelow.{FromBelow}
-use Rattle.member_core.specs.declared.inputs.FromBelow.TheVariants as from_below
+use Rattle.pipe_setup.specs.MemberCore.FromBelow.{FromBelow}
+use Rattle.pipe_setup.specs.MemberCore.FromBelow.TheVariants as from_below
 use Rattle.pipe_turns.specs.Taking.{IsListedBelow}
 use Rattle.pipe_turns.specs.declared.turning.Done.{Done}
 use Rattle.pipe_turns.specs.declared.turning.Done.TheVariants as done

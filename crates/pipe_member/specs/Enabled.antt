@@ -3,7 +3,7 @@ use Rattle.std.specs.Prelude.{ℕ, is_some, Bool, false}
 use Rattle.hd_base.specs.declared.ends.Standing.{Standing}
 use Rattle.hd_base.specs.declared.ends.Standing.TheVariants as standing
 use Rattle.replica_core.specs.declared.records.ReplicaRecord.{ReplicaRecord}
-use Rattle.member_core.specs.Members.{MemberState, takes_messages, hears, ready_turn_by}
+use Rattle.pipe_setup.specs.MemberCore.Members.{MemberState, takes_messages, hears, ready_turn_by}
 use Rattle.pipe_member.specs.declared.stages.Stage.{Stage}
 use Rattle.pipe_member.specs.declared.stages.Stage.TheVariants as stage
 

@@ -4,11 +4,11 @@ use Rattle.hd_base.specs.declared.ends.Conn.{Conn}
 use Rattle.hd_base.specs.declared.files.Files as files
 use Rattle.hd_base.specs.declared.links.LinkIn as link_in
 use Rattle.hd_base.specs.declared.links.LinkOut as link_out
-use Rattle.replica_files.specs.declared.book_state.BookState.{BookState}
-use Rattle.replica_files.specs.Books.{replica_of}
-use Rattle.member_core.specs.declared.turns.Turn.{Turn}
-use Rattle.member_core.specs.Members.{MemberState, has_mirror, hears, down_turn, up_turn}
-use Rattle.member_core.specs.Steps.{oldest_at, ready_turn_at}
+use Rattle.pipe_setup.specs.ReplicaFiles.BookState.{BookState}
+use Rattle.pipe_setup.specs.ReplicaFiles.Books.{replica_of}
+use Rattle.pipe_setup.specs.MemberCore.Turn.{Turn}
+use Rattle.pipe_setup.specs.MemberCore.Members.{MemberState, has_mirror, hears, down_turn, up_turn}
+use Rattle.pipe_setup.specs.MemberCore.Steps.{oldest_at, ready_turn_at}
 use Rattle.pipe_member.specs.declared.member.Member.{Member}
 use Rattle.pipe_member.specs.declared.stages.Looked.{Looked}
 use Rattle.pipe_member.specs.declared.stages.Stage.{Stage}

@@ -4,9 +4,9 @@ use Rattle.hd_base.specs.declared.ends.Conn.{Conn}
 use Rattle.hd_base.specs.declared.files.Files as files
 use Rattle.hd_base.specs.declared.links.LinkIn as link_in
 use Rattle.hd_base.specs.declared.links.LinkOut as link_out
-use Rattle.replica_files.specs.declared.book_state.BookState.{BookState}
-use Rattle.member_core.specs.declared.turns.Turn.{Turn}
-use Rattle.member_core.specs.Members.{MemberState, down_turn, up_turn, ready_turn_by, hears}
+use Rattle.pipe_setup.specs.ReplicaFiles.BookState.{BookState}
+use Rattle.pipe_setup.specs.MemberCore.Turn.{Turn}
+use Rattle.pipe_setup.specs.MemberCore.Members.{MemberState, down_turn, up_turn, ready_turn_by, hears}
 use Rattle.pipe_turns.specs.Acting.{ShutsEnd, ShutsMirror}
 use Rattle.pipe_member.specs.declared.member.Member.{Member}
 use Rattle.pipe_member.specs.declared.stages.Looked.{Looked}

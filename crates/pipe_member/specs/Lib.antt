@@ -12,3 +12,16 @@ pub mod Exchanges
 pub mod Stepping
 pub mod EventSteps
 pub mod SetupSteps
+pub mod AckCodec
+pub mod BlockReceiver
+pub mod FrameFeed
+pub mod LinkMessages
+pub mod MemberCore
+pub mod NodeRefs
+pub mod PacketCodec
+pub mod PacketResponder
+pub mod PipeSetup
+pub mod PipeTurns
+pub mod ReplicaFiles
+pub mod ReplicaModel
+pub mod RequestRefusals

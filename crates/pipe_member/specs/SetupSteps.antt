@@ -9,14 +9,14 @@ use Rattle.hd_base.specs.declared.roads.Roads as roads
 use Rattle.op_headers.specs.Values.{WriteFields}
 use Rattle.replica_core.specs.declared.events.Event.{Event}
 use Rattle.replica_core.specs.Views.{rule_in}
-use Rattle.replica_model.specs.Rows.{FullReplica}
-use Rattle.replica_files.specs.declared.book_state.BookState.{BookState}
-use Rattle.replica_files.specs.Books.{replica_of}
-use Rattle.request_refusals.specs.declared.refusals.RequestRefusal.{RequestRefusal}
-use Rattle.member_core.specs.declared.effects.Shuts.{Shuts}
-use Rattle.member_core.specs.Members.{MemberState, refused_setup}
-use Rattle.member_core.specs.Requests.{request_event}
-use Rattle.member_core.specs.Steps.{Setup, request_step, faulted_request}
+use Rattle.pipe_setup.specs.ReplicaModel.Rows.{FullReplica}
+use Rattle.pipe_setup.specs.ReplicaFiles.BookState.{BookState}
+use Rattle.pipe_setup.specs.ReplicaFiles.Books.{replica_of}
+use Rattle.pipe_setup.specs.RequestRefusals.RequestRefusal.{RequestRefusal}
+use Rattle.pipe_setup.specs.MemberCore.Shuts.{Shuts}
+use Rattle.pipe_setup.specs.MemberCore.Members.{MemberState, refused_setup}
+use Rattle.pipe_setup.specs.MemberCore.Requests.{request_event}
+use Rattle.pipe_setup.specs.MemberCore.Steps.{Setup, request_step, faulted_request}
 use Rattle.pipe_setup.specs.declared.setups.Setup as local
 use Rattle.pipe_setup.specs.declared.setups.Setup.TheVariants as setup
 use Rattle.pipe_turns.specs.Acting.{texts_of}

@@ -13,14 +13,14 @@ use Rattle.replica_core.specs.declared.events.Event.{Event}
 use Rattle.replica_core.specs.declared.refusals.Refusal.{Refusal}
 use Rattle.replica_core.specs.Transitions.{Outcome, transition}
 use Rattle.replica_core.specs.Views.{rule_in}
-use Rattle.replica_files.specs.declared.book_state.BookState.{BookState}
-use Rattle.request_refusals.specs.declared.refusals.RequestRefusal.{RequestRefusal}
-use Rattle.request_refusals.specs.declared.refusals.RequestRefusal.TheVariants as refusal
-use Rattle.member_core.specs.declared.effects.Effect.{Effect}
-use Rattle.member_core.specs.declared.effects.Shuts.{Shuts}
-use Rattle.member_core.specs.declared.effects.Shuts.TheVariants as shuts
-use Rattle.member_core.specs.Members.{MemberState, set_up, refused_setup}
-use Rattle.member_core.specs.Requests.{request_event}
+use Rattle.pipe_setup.specs.ReplicaFiles.BookState.{BookState}
+use Rattle.pipe_setup.specs.RequestRefusals.RequestRefusal.{RequestRefusal}
+use Rattle.pipe_setup.specs.RequestRefusals.RequestRefusal.TheVariants as refusal
+use Rattle.pipe_setup.specs.MemberCore.Effect.{Effect}
+use Rattle.pipe_setup.specs.MemberCore.Shuts.{Shuts}
+use Rattle.pipe_setup.specs.MemberCore.Shuts.TheVariants as shuts
+use Rattle.pipe_setup.specs.MemberCore.Members.{MemberState, set_up, refused_setup}
+use Rattle.pipe_setup.specs.MemberCore.Requests.{request_event}
 use Rattle.pipe_setup.specs.declared.refusals.SetupRefusal.{SetupRefusal}
 use Rattle.pipe_setup.specs.declared.refusals.SetupRefusal.TheVariants as setup_refusal
 use Rattle.pipe_setup.specs.declared.setups.Setup.{Setup}

@@ -6,16 +6,16 @@ use Rattle.hd_base.specs.declared.ends.Conn.{Conn}
 use Rattle.hd_base.specs.declared.files.Files as files
 use Rattle.hd_base.specs.declared.links.LinkOut as link_out
 use Rattle.packet_codec.specs.Packets.{packet_text}
-use Rattle.replica_model.specs.declared.events.ReplicaEvent.{ReplicaEvent}
-use Rattle.replica_model.specs.declared.events.ReplicaEvent.TheVariants as replica_event
-use Rattle.replica_model.specs.Rows.{FullReplica}
-use Rattle.replica_files.specs.declared.book_state.BookState.{BookState}
-use Rattle.replica_files.specs.Books.{replica_of}
-use Rattle.packet_responder.specs.Sendings.{IsAnswering}
-use Rattle.member_core.specs.declared.effects.Effect.{Effect}
-use Rattle.member_core.specs.declared.turns.Turn.{Turn}
-use Rattle.member_core.specs.Members.{MemberState}
-use Rattle.member_core.specs.Steps.{Step, step, faulted_step}
+use Rattle.pipe_setup.specs.ReplicaModel.ReplicaEvent.{ReplicaEvent}
+use Rattle.pipe_setup.specs.ReplicaModel.ReplicaEvent.TheVariants as replica_event
+use Rattle.pipe_setup.specs.ReplicaModel.Rows.{FullReplica}
+use Rattle.pipe_setup.specs.ReplicaFiles.BookState.{BookState}
+use Rattle.pipe_setup.specs.ReplicaFiles.Books.{replica_of}
+use Rattle.pipe_turns.specs.PacketResponder.Sendings.{IsAnswering}
+use Rattle.pipe_setup.specs.MemberCore.Effect.{Effect}
+use Rattle.pipe_setup.specs.MemberCore.Turn.{Turn}
+use Rattle.pipe_setup.specs.MemberCore.Members.{MemberState}
+use Rattle.pipe_setup.specs.MemberCore.Steps.{Step, step, faulted_step}
 use Rattle.pipe_turns.specs.Acting.{texts_of}
 use Rattle.pipe_member.specs.declared.member.Member.{Member}
 use Rattle.pipe_member.specs.declared.stages.Took.{Took}

@@ -1,11 +1,11 @@
 -- How an event of a member ends, by how its turn did.
 use Rattle.std.specs.Prelude.{Bool, true, false, Option, Some, None}
 use Rattle.hd_base.specs.declared.numbers.Receipt.{Receipt}
-use Rattle.member_core.specs.declared.effects.Shuts.{Shuts}
-use Rattle.member_core.specs.declared.effects.Shuts.TheVariants as shuts
-use Rattle.member_core.specs.declared.member.Mirror.{Mirror}
-use Rattle.member_core.specs.declared.member.Mirror.TheVariants as mirror
-use Rattle.member_core.specs.Members.{MemberState}
+use Rattle.pipe_setup.specs.MemberCore.Shuts.{Shuts}
+use Rattle.pipe_setup.specs.MemberCore.Shuts.TheVariants as shuts
+use Rattle.pipe_setup.specs.MemberCore.Mirror.{Mirror}
+use Rattle.pipe_setup.specs.MemberCore.Mirror.TheVariants as mirror
+use Rattle.pipe_setup.specs.MemberCore.Members.{MemberState}
 use Rattle.pipe_turns.specs.declared.turning.Done.{Done}
 use Rattle.pipe_turns.specs.declared.turning.Done.TheVariants as done
 use Rattle.pipe_member.specs.declared.stages.Looked.{Looked}

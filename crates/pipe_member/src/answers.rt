@@ -1,13 +1,13 @@
 //! A member's answer to its request is never too long to be written.
 
 ghost use Rattle.std.specs.Prelude.{◌≤◌, length};
-ghost use Rattle.request_refusals.specs.Texts.{spaced, spaced_signed, kept_text, values_text};
-ghost use Rattle.member_core.specs.declared.effects.SetupAnswer.TheVariants as answer;
+ghost use Rattle.pipe_setup.specs.RequestRefusals.Texts.{spaced, spaced_signed, kept_text, values_text};
+ghost use Rattle.pipe_setup.specs.MemberCore.SetupAnswer.TheVariants as answer;
 ghost use Rattle.pipe_member.specs.Answering.{IsWritten, UnreachedIsWritten, BelowIsWritten, max_number, max_values};
 
 use op_headers::WriteOp;
+use pipe_setup::RequestRefusal;
 use replica_core::Refusal;
-use request_refusals::RequestRefusal;
 
 /// Each answer of a member to its request is written: its message is within the limit of 65,536 bytes. Of a mirror that
 /// couldn't be had this is so since the request, which names it, was read; of what a mirror named, since its answer was.

@@ -17,10 +17,9 @@ ghost use Rattle.pipe_member.specs.Below.{
 };
 
 use crate::stages::{Looked, Took, looked_of};
-use ack_codec::{Ack, Response};
 use hd_base::{Conn, LinkIn};
 use link_messages::{Incoming, Next};
-use member_core::FromBelow;
+use pipe_setup::{Ack, FromBelow, Response};
 use pipe_turns::Done;
 use std::alloc::{AllocError, Global};
 use std::marker::Model;

@@ -21,6 +21,8 @@ pub use laws::{
     downs_are_steps, readies_are_steps, refusals_are_steps, resumptions_are_steps,
     setups_are_steps, turns_are_steps, ups_are_steps,
 };
+pub use link_messages::{Incoming, Next};
 pub use member::Member;
+pub use pipe_setup::{MAX_PORT, ReplicaBook};
 pub use stages::{Looked, Stage, Took};
 pub use stepped::Stepped;

@@ -13,10 +13,9 @@ use crate::below::Below;
 use crate::stages::{Looked, Stage, Took, stage_after};
 use crate::stepped::{Stepped, after_failure, closed_step, stepped_of};
 use hd_base::{Conn, ConnId, Files, LinkIn, LinkOut, NodeId};
-use member_core::{FromBelow, Member as Core, Shuts};
 use op_headers::WriteOp;
+use pipe_setup::{FromBelow, Member as Core, ReplicaBook, Shuts};
 use pipe_turns::{Done, SpelledTurn, act};
-use replica_files::ReplicaBook;
 use std::alloc::{AllocError, Global};
 
 /// A member of a pipeline at a node, with the connection from above, the request that came on it, and the connection to

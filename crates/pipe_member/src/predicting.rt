@@ -11,7 +11,7 @@ ghost use Rattle.replica_core.specs.Transitions.{
   close_recovery_transition,
 };
 ghost use Rattle.replica_core.specs.declared.events.Event.TheVariants as event;
-ghost use Rattle.replica_files.specs.Events.{IsSetup};
+ghost use Rattle.pipe_setup.specs.ReplicaFiles.Events.{IsSetup};
 ghost use Rattle.pipe_member.specs.Refusing.{refused_in};
 
 use hd_base::{ConnId, ReplicaState, Stamp, SumRule};

@@ -4,10 +4,10 @@ ghost use Rattle.std.specs.Prelude.{◌≡◌, ◌<◌, ◌≤◌, if◌then◌e
 ghost use Rattle.link_pieces.specs.Pieces.{SendsNothing};
 ghost use Rattle.replica_core.specs.Views.{rule_in};
 ghost use Rattle.replica_core.specs.Transitions.{transition};
-ghost use Rattle.replica_files.specs.Events.{IsSetup};
-ghost use Rattle.member_core.specs.Members.{refused_setup};
-ghost use Rattle.member_core.specs.Requests.{request_event};
-ghost use Rattle.member_core.specs.declared.requests.TheConstants.{MAX_BELOW};
+ghost use Rattle.pipe_setup.specs.ReplicaFiles.Events.{IsSetup};
+ghost use Rattle.pipe_setup.specs.MemberCore.Members.{refused_setup};
+ghost use Rattle.pipe_setup.specs.MemberCore.Requests.{request_event};
+ghost use Rattle.pipe_setup.specs.MemberCore.TheConstants.{MAX_BELOW};
 ghost use Rattle.pipe_turns.specs.Acting.{texts_of, shuts_up};
 ghost use Rattle.pipe_member.specs.Setups.{
   IsAsked,
@@ -34,13 +34,13 @@ use crate::stages::{Stage, Took, stage_after};
 use crate::stepped::Stepped;
 use hd_base::{Conn, ConnId, Files, LinkIn, LinkOut, Receipt, Roads};
 use link_pieces::{send_piece, take_room};
-use member_core::{Effect, Member as Core, Shuts, request_event};
 use op_headers::WriteOp;
-use pipe_setup::{Setup, SetupRefusal, go_on, setup_local};
+use pipe_setup::{
+    Effect, Member as Core, ReplicaBook, RequestRefusal, Setup, SetupRefusal, Shuts, go_on,
+    request_event, setup_local,
+};
 use pipe_turns::{Done, send_alone, upward_text};
 use replica_core::{Event, Refusal, Replica};
-use replica_files::ReplicaBook;
-use request_refusals::RequestRefusal;
 use std::alloc::{AllocError, Global};
 
 /// A request that is about to be booked.

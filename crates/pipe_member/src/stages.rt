@@ -6,7 +6,7 @@ ghost use Rattle.pipe_member.specs.Steps.{stage_after};
 
 use hd_base::Receipt;
 use link_messages::Next;
-use member_core::{Member as Core, Shuts};
+use pipe_setup::{Member as Core, Shuts};
 
 /// Where a member is.
 #[derive(Clone, Copy, Debug)]

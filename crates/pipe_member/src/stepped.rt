@@ -5,7 +5,7 @@ ghost use Rattle.pipe_member.specs.Steps.{receipt_of, stepped_of, after_failure,
 
 use crate::stages::{Looked, Stage};
 use hd_base::Receipt;
-use member_core::Shuts;
+use pipe_setup::Shuts;
 use pipe_turns::Done;
 
 /// How an event of a member ended. A receipt names the entry of the book, where something was booked.

@@ -1,7 +1,7 @@
 -- What comes on the writer's connection while it waits for the answer to its request.
 use Rattle.std.specs.Prelude.{◌≡◌, Option, Some, None}
 use Rattle.hd_base.specs.declared.links.LinkIn as link_in
-use Rattle.ack_codec.specs.declared.responses.Response.{Response}
+use Rattle.member_core.specs.AckCodec.Response.{Response}
 use Rattle.frame_feed.specs.Kinds.{responses}
 use Rattle.link_messages.specs.declared.incoming.Next.{Next}
 use Rattle.link_messages.specs.declared.incoming.Next.TheVariants as came

@@ -8,3 +8,6 @@ pub mod Reports
 pub mod Steps
 pub mod Exchanging
 pub mod Driving
+pub mod FrameFeed
+pub mod LinkMessages
+pub mod MemberCore

@@ -3,9 +3,9 @@
 ghost use Rattle.std.specs.Prelude.{◌≡◌, None, IfOk, is_some};
 ghost use Rattle.pipe_recovery.specs.Hearing.{nothing_heard, answer_of, looked_of, Looks, Receives};
 
-use ack_codec::Response;
 use hd_base::LinkIn;
 use link_messages::{Incoming, Next};
+use member_core::Response;
 use std::alloc::{AllocError, Global};
 use std::marker::Model;
 

@@ -16,5 +16,7 @@ pub use acting::Acted;
 pub use dialling::Opened;
 pub use driving::rebuild;
 pub use hearing::{Answer, Heard, Looked};
+pub use link_messages::{Incoming, Next};
 pub use links::Link;
+pub use member_core::MAX_PORT;
 pub use rebuilding::{Rebuild, RebuildStep, Rebuilt};

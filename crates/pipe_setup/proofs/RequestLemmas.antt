@@ -8,9 +8,9 @@ use Rattle.hd_base.proofs.ResultLaws.{ok_value, err_value}
 use Rattle.op_headers.specs.Values.{WriteFields}
 use Rattle.replica_core.specs.declared.events.Event.{Event}
 use Rattle.replica_files.specs.Events.{IsSetup}
-use Rattle.request_refusals.specs.declared.refusals.RequestRefusal.{RequestRefusal}
-use Rattle.request_refusals.specs.declared.refusals.RequestRefusal.TheVariants as refusal
-use Rattle.request_refusals.specs.Pools.{is_in_pool}
+use Rattle.member_core.specs.RequestRefusals.RequestRefusal.{RequestRefusal}
+use Rattle.member_core.specs.RequestRefusals.RequestRefusal.TheVariants as refusal
+use Rattle.member_core.specs.RequestRefusals.Pools.{is_in_pool}
 use Rattle.member_core.specs.declared.requests.SetupKind.{SetupKind}
 use Rattle.member_core.specs.declared.requests.SetupKind.TheVariants as setup
 use Rattle.member_core.specs.declared.requests.TheConstants.{MAX_BELOW}

@@ -1,6 +1,6 @@
 -- What a member answers upstream after its mirror.
 use Rattle.std.specs.Prelude.{◌≡◌, if◌then◌else◌, Option, Some, None}
-use Rattle.ack_codec.specs.declared.responses.Response.{Response}
+use Rattle.member_core.specs.AckCodec.Response.{Response}
 use Rattle.member_core.specs.declared.effects.SetupAnswer.{SetupAnswer}
 use Rattle.member_core.specs.declared.effects.SetupAnswer.TheVariants as answer
 use Rattle.member_core.specs.declared.effects.Upward.TheVariants as upward

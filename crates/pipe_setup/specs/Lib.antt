@@ -3,3 +3,9 @@ pub mod Answers
 pub mod Requests
 pub mod Reaching
 pub mod Setups
+pub mod AckCodec
+pub mod MemberCore
+pub mod NodeRefs
+pub mod ReplicaFiles
+pub mod ReplicaModel
+pub mod RequestRefusals

@@ -1,6 +1,6 @@
 -- Why a member refuses a write request.
-use Rattle.request_refusals.specs.declared.refusals.RequestRefusal.{RequestRefusal}
-use Rattle.request_refusals.specs.declared.refusals.RequestRefusal.TheVariants as request
+use Rattle.member_core.specs.RequestRefusals.RequestRefusal.{RequestRefusal}
+use Rattle.member_core.specs.RequestRefusals.RequestRefusal.TheVariants as request
 use Rattle.pipe_setup.specs.declared.refusals.SetupRefusal.{SetupRefusal}
 use Rattle.pipe_setup.specs.declared.refusals.SetupRefusal.TheVariants as setup
 

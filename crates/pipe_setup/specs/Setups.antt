@@ -12,12 +12,12 @@ use Rattle.link_pieces.specs.Roads.{IsUnanswered}
 use Rattle.op_headers.specs.Values.{WriteFields}
 use Rattle.replica_core.specs.declared.events.Event.{Event}
 use Rattle.replica_core.specs.Views.{rule_in}
-use Rattle.replica_model.specs.declared.events.ReplicaEvent.TheVariants as replica_event
+use Rattle.member_core.specs.ReplicaModel.ReplicaEvent.TheVariants as replica_event
 use Rattle.replica_files.specs.declared.book_state.BookState.{BookState}
 use Rattle.replica_files.specs.declared.faults.BookFault.{BookFault}
 use Rattle.replica_files.specs.declared.faults.BookFault.TheVariants as fault
 use Rattle.replica_files.specs.Endings.{BookEnds}
-use Rattle.request_refusals.specs.declared.refusals.RequestRefusal.{RequestRefusal}
+use Rattle.member_core.specs.RequestRefusals.RequestRefusal.{RequestRefusal}
 use Rattle.member_core.specs.Requests.{request_event}
 use Rattle.pipe_setup.specs.Refusals.{refusal_of, IsUnbooked}
 use Rattle.pipe_setup.specs.Requests.{first_port}

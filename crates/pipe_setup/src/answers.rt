@@ -4,9 +4,8 @@ ghost use Rattle.std.specs.Prelude.{◌≡◌, ◌≢◌, [], IfOk, option_map};
 ghost use Rattle.member_core.specs.Requests.{response_of};
 ghost use Rattle.pipe_setup.specs.Answers.{answer_above, answer_after};
 
-use ack_codec::Response;
 use hd_base::Status;
-use member_core::{SetupAnswer, response};
+use member_core::{Response, SetupAnswer, response};
 use op_headers::WriteOp;
 use std::alloc::{AllocError, Global};
 

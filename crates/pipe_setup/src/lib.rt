@@ -10,5 +10,10 @@ mod setups;
 
 pub use answers::setup_above;
 pub use laws::answers_follow_the_member;
+pub use member_core::{
+    Ack, Effect, FromAbove, FromBelow, MAX_PORT, Member, RequestRefusal, Response, Shuts,
+    request_event,
+};
 pub use refusals::SetupRefusal;
+pub use replica_files::ReplicaBook;
 pub use setups::{Setup, go_on, setup_local};

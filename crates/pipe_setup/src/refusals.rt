@@ -4,8 +4,8 @@ ghost use Rattle.std.specs.Prelude.{◌≡◌};
 ghost use Rattle.pipe_setup.specs.Refusals.{refusal_of};
 
 use hd_base::Receipt;
+use member_core::RequestRefusal;
 use replica_core::Refusal;
-use request_refusals::RequestRefusal;
 
 /// Why a member refuses a write request. Where the replica refused it, the receipt names the entry of the book; the others
 /// come before the replica is asked.

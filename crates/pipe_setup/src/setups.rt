@@ -12,11 +12,10 @@ ghost use Rattle.pipe_setup.specs.Setups.{SetsUp, SetsUpBy, GoesOn, booked_in};
 use crate::reaching::{Reached, reach_mirror};
 use crate::refusals::SetupRefusal;
 use hd_base::{Conn, ConnId, Files, LinkOut, NodeId, Receipt, RoadError, Roads};
-use member_core::request_event;
+use member_core::{RequestRefusal, request_event};
 use op_headers::WriteOp;
 use replica_core::Event;
 use replica_files::{BookFault, ReplicaBook};
-use request_refusals::RequestRefusal;
 use std::alloc::Global;
 
 /// How a write request was set up. The receipt names the entry of the book.

@@ -1,9 +1,9 @@
 -- An answer to a request tells of no sums.
 use Rattle.std.proofs.Common.{refl}
-use Rattle.op_headers.specs.Values.{WriteFields}
-use Rattle.member_core.specs.declared.effects.SetupAnswer.{SetupAnswer}
-use Rattle.member_core.specs.declared.effects.SetupAnswer.TheVariants as answer
-use Rattle.member_core.specs.Requests.{response_of}
+use Rattle.block_receiver.specs.OpHeaders.Values.{WriteFields}
+use Rattle.block_receiver.specs.MemberCore.SetupAnswer.{SetupAnswer}
+use Rattle.block_receiver.specs.MemberCore.SetupAnswer.TheVariants as answer
+use Rattle.block_receiver.specs.MemberCore.Requests.{response_of}
 use Rattle.pipe_turns.specs.Acting.{IsPlain}
 
 pub plain_response : (op : WriteFields) (a : SetupAnswer) → IsPlain (response_of op a)

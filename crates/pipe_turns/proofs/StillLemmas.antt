@@ -3,12 +3,12 @@ use Rattle.std.proofs.Common.{◌≡◌, ◌≤◌, ℕ, List, Option, Some, Non
 use Rattle.hd_base.specs.declared.ends.Conn.{Conn}
 use Rattle.hd_base.specs.declared.files.Files as files
 use Rattle.hd_base.specs.declared.links.LinkOut as link_out
-use Rattle.link_pieces.specs.Pieces.{SendsNothing}
-use Rattle.packet_codec.specs.declared.packets.Packet.{Packet}
-use Rattle.replica_model.specs.declared.events.ReplicaEvent.{ReplicaEvent}
-use Rattle.replica_model.specs.declared.events.ReplicaEvent.TheVariants as replica_event
-use Rattle.replica_files.specs.declared.book_state.BookState.{BookState}
-use Rattle.replica_files.specs.Endings.{EndsUnmade}
+use Rattle.block_receiver.specs.LinkPieces.Pieces.{SendsNothing}
+use Rattle.block_receiver.specs.PacketCodec.Packet.{Packet}
+use Rattle.block_receiver.specs.ReplicaModel.ReplicaEvent.{ReplicaEvent}
+use Rattle.block_receiver.specs.ReplicaModel.ReplicaEvent.TheVariants as replica_event
+use Rattle.block_receiver.specs.ReplicaFiles.BookState.{BookState}
+use Rattle.block_receiver.specs.ReplicaFiles.Endings.{EndsUnmade}
 use Rattle.block_receiver.specs.declared.packets.Taken.TheVariants as taken
 use Rattle.packet_responder.specs.declared.sendings.Sending.TheVariants as sending
 use Rattle.pipe_turns.specs.Turning.{Performs, PassesEnd, SendsText, SendsAlone}

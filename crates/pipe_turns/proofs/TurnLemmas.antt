@@ -3,18 +3,18 @@ use Rattle.std.proofs.Common.{◌≡◌, ◌==◌, ◌<◌, ℕ, zero, suc, ℤ,
 use Rattle.hd_base.specs.Wire.{IsStatus}
 use Rattle.hd_base.specs.declared.states.Status.{Status}
 use Rattle.hd_base.specs.declared.states.Status.TheVariants as status
-use Rattle.replica_core.specs.declared.ack_queue.PendingPacket.{PendingPacket}
-use Rattle.replica_core.specs.declared.records.ReplicaRecord.{ReplicaRecord}
-use Rattle.replica_model.specs.declared.events.ReplicaEvent.{ReplicaEvent}
-use Rattle.replica_model.specs.declared.events.ReplicaEvent.TheVariants as replica_event
-use Rattle.member_core.specs.declared.effects.SetupAnswer.{SetupAnswer}
-use Rattle.member_core.specs.declared.inputs.FromBelow.{FromBelow}
-use Rattle.member_core.specs.declared.inputs.FromBelow.TheVariants as below
-use Rattle.member_core.specs.declared.member.Mirror.{Mirror}
-use Rattle.member_core.specs.declared.member.Mirror.TheVariants as mirror
-use Rattle.member_core.specs.declared.turns.Turn.{Turn}
-use Rattle.member_core.specs.Acks.{is_success, failures, begins_with_bad_sum, is_read, with_own}
-use Rattle.member_core.specs.Members.{MemberState, accept_turn, fail_turn, named_bad, setup_turn, good_turn, give_up_turn, spoiled_turn, partial_turn, pass_turn, ack_turn, stream_turn, up_at, up_turn, bad_turn, idle_turn, quiet_turn, patient_turn, ready_at, ready_turn_by}
+use Rattle.packet_responder.specs.ReplicaCore.PendingPacket.{PendingPacket}
+use Rattle.packet_responder.specs.ReplicaCore.ReplicaRecord.{ReplicaRecord}
+use Rattle.block_receiver.specs.ReplicaModel.ReplicaEvent.{ReplicaEvent}
+use Rattle.block_receiver.specs.ReplicaModel.ReplicaEvent.TheVariants as replica_event
+use Rattle.block_receiver.specs.MemberCore.SetupAnswer.{SetupAnswer}
+use Rattle.block_receiver.specs.MemberCore.FromBelow.{FromBelow}
+use Rattle.block_receiver.specs.MemberCore.FromBelow.TheVariants as below
+use Rattle.block_receiver.specs.MemberCore.Mirror.{Mirror}
+use Rattle.block_receiver.specs.MemberCore.Mirror.TheVariants as mirror
+use Rattle.block_receiver.specs.MemberCore.Turn.{Turn}
+use Rattle.block_receiver.specs.MemberCore.Acks.{is_success, failures, begins_with_bad_sum, is_read, with_own}
+use Rattle.block_receiver.specs.MemberCore.Members.{MemberState, accept_turn, fail_turn, named_bad, setup_turn, good_turn, give_up_turn, spoiled_turn, partial_turn, pass_turn, ack_turn, stream_turn, up_at, up_turn, bad_turn, idle_turn, quiet_turn, patient_turn, ready_at, ready_turn_by}
 use Rattle.pipe_turns.specs.Turning.{CanBook, IsListed, IsSpelled}
 use Rattle.pipe_turns.specs.Taking.{IsListedBelow}
 

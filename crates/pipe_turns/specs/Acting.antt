@@ -5,22 +5,22 @@ use Rattle.hd_base.specs.declared.ends.Conn.{Conn}
 use Rattle.hd_base.specs.declared.files.Files as files
 use Rattle.hd_base.specs.declared.links.LinkOut as link_out
 use Rattle.hd_base.specs.Faults.{KeepsSchedule}
-use Rattle.proto_fields.specs.Frames.{limit}
-use Rattle.ack_codec.specs.AckTexts.{ack_text}
-use Rattle.ack_codec.specs.ResponseTexts.{response_message, response_text}
-use Rattle.ack_codec.specs.declared.responses.Response.{Response}
-use Rattle.op_headers.specs.Values.{WriteFields}
-use Rattle.replica_files.specs.declared.book_state.BookState.{BookState}
-use Rattle.member_core.specs.declared.effects.SetupAnswer.{SetupAnswer}
-use Rattle.member_core.specs.declared.effects.Shuts.{Shuts}
-use Rattle.member_core.specs.declared.effects.Shuts.TheVariants as shuts
-use Rattle.member_core.specs.declared.effects.Upward.{Upward}
-use Rattle.member_core.specs.declared.effects.Upward.TheVariants as upward
-use Rattle.member_core.specs.declared.turns.Booked.{Booked}
-use Rattle.member_core.specs.declared.turns.Booked.TheVariants as booked
-use Rattle.member_core.specs.declared.turns.Turn.{Turn}
-use Rattle.member_core.specs.Members.{MemberState, settled}
-use Rattle.member_core.specs.Requests.{response_of}
+use Rattle.block_receiver.specs.ProtoFields.Frames.{limit}
+use Rattle.block_receiver.specs.AckCodec.AckTexts.{ack_text}
+use Rattle.block_receiver.specs.AckCodec.ResponseTexts.{response_message, response_text}
+use Rattle.block_receiver.specs.AckCodec.Response.{Response}
+use Rattle.block_receiver.specs.OpHeaders.Values.{WriteFields}
+use Rattle.block_receiver.specs.ReplicaFiles.BookState.{BookState}
+use Rattle.block_receiver.specs.MemberCore.SetupAnswer.{SetupAnswer}
+use Rattle.block_receiver.specs.MemberCore.Shuts.{Shuts}
+use Rattle.block_receiver.specs.MemberCore.Shuts.TheVariants as shuts
+use Rattle.block_receiver.specs.MemberCore.Upward.{Upward}
+use Rattle.block_receiver.specs.MemberCore.Upward.TheVariants as upward
+use Rattle.block_receiver.specs.MemberCore.Booked.{Booked}
+use Rattle.block_receiver.specs.MemberCore.Booked.TheVariants as booked
+use Rattle.block_receiver.specs.MemberCore.Turn.{Turn}
+use Rattle.block_receiver.specs.MemberCore.Members.{MemberState, settled}
+use Rattle.block_receiver.specs.MemberCore.Requests.{response_of}
 use Rattle.pipe_turns.specs.Turning.{Performs}
 use Rattle.pipe_turns.specs.declared.turning.Done.{Done}
 use Rattle.pipe_turns.specs.declared.turning.Done.TheVariants as done

@@ -1,8 +1,8 @@
 -- What a member takes from below.
 use Rattle.std.specs.Prelude.{All}
 use Rattle.hd_base.specs.Wire.{IsStatus}
-use Rattle.member_core.specs.declared.inputs.FromBelow.{FromBelow}
-use Rattle.member_core.specs.declared.inputs.FromBelow.TheVariants as below
+use Rattle.block_receiver.specs.MemberCore.FromBelow.{FromBelow}
+use Rattle.block_receiver.specs.MemberCore.FromBelow.TheVariants as below
 
 -- An ack is of listed statuses.
 abbrev pub IsListedBelow : FromBelow → Type 0

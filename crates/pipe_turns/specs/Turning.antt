@@ -4,16 +4,16 @@ use Rattle.hd_base.specs.Wire.{IsStatus}
 use Rattle.hd_base.specs.declared.ends.Conn.{Conn}
 use Rattle.hd_base.specs.declared.files.Files as files
 use Rattle.hd_base.specs.declared.links.LinkOut as link_out
-use Rattle.link_pieces.specs.Pieces.{SendsNothing, SendsPiece, FailsToSend}
-use Rattle.packet_codec.specs.declared.packets.Packet.{Packet}
-use Rattle.packet_codec.specs.Packets.{IsEncodable, SpellsPacket}
-use Rattle.replica_core.specs.declared.ack_queue.TheConstants.{MAX_PENDING}
-use Rattle.replica_model.specs.declared.events.ReplicaEvent.{ReplicaEvent}
-use Rattle.replica_model.specs.declared.events.ReplicaEvent.TheVariants as replica_event
-use Rattle.replica_files.specs.declared.book_state.BookState.{BookState}
-use Rattle.replica_files.specs.Endings.{BookEnds}
-use Rattle.member_core.specs.declared.effects.Upward.{Upward}
-use Rattle.member_core.specs.declared.effects.Upward.TheVariants as upward
+use Rattle.block_receiver.specs.LinkPieces.Pieces.{SendsNothing, SendsPiece, FailsToSend}
+use Rattle.block_receiver.specs.PacketCodec.Packet.{Packet}
+use Rattle.block_receiver.specs.PacketCodec.Packets.{IsEncodable, SpellsPacket}
+use Rattle.packet_responder.specs.ReplicaCore.TheConstants.{MAX_PENDING}
+use Rattle.block_receiver.specs.ReplicaModel.ReplicaEvent.{ReplicaEvent}
+use Rattle.block_receiver.specs.ReplicaModel.ReplicaEvent.TheVariants as replica_event
+use Rattle.block_receiver.specs.ReplicaFiles.BookState.{BookState}
+use Rattle.block_receiver.specs.ReplicaFiles.Endings.{BookEnds}
+use Rattle.block_receiver.specs.MemberCore.Upward.{Upward}
+use Rattle.block_receiver.specs.MemberCore.Upward.TheVariants as upward
 use Rattle.block_receiver.specs.declared.packets.Taken.{Taken}
 use Rattle.block_receiver.specs.declared.packets.Taken.TheVariants as taken
 use Rattle.block_receiver.specs.Packets.{booked_as, PassesTo, IsAlone}

@@ -1,7 +1,7 @@
 //! A turn of a member over its two connections.
 
 ghost use Rattle.std.specs.Prelude.{◌≡◌, length, option_map, Some, IfOk};
-ghost use Rattle.ack_codec.specs.AckTexts.{ack_text};
+ghost use Rattle.block_receiver.specs.AckCodec.AckTexts.{ack_text};
 ghost use Rattle.pipe_turns.specs.Turning.{CanBook, IsListed, IsSpelled};
 ghost use Rattle.pipe_turns.specs.Acting.{
   Acts,
@@ -17,12 +17,12 @@ ghost use Rattle.pipe_turns.specs.Acting.{
 };
 
 use crate::turning::{Done, perform};
-use ack_codec::{Ack, AckBytes, Response, encode_ack, encode_response};
+use block_receiver::{
+    Ack, AckBytes, Booked, Member as Core, ReplicaBook, Response, SetupAnswer, Shuts, Turn, Upward,
+    WriteOp, encode_ack, encode_response, response,
+};
 use bytes::Bytes;
 use hd_base::{Conn, Files, LinkOut};
-use member_core::{Booked, Member as Core, SetupAnswer, Shuts, Turn, Upward, response};
-use op_headers::WriteOp;
-use replica_files::ReplicaBook;
 use std::alloc::{AllocError, Global};
 
 /// A turn that is to be done. Where it books a packet and the bytes are known in which that came, they are kept with it:

@@ -6,4 +6,5 @@ mod acting;
 mod turning;
 
 pub use acting::{SpelledTurn, act, upward_text};
+pub use block_receiver::{BookFault, ReplicaBook};
 pub use turning::{Done, send_alone};

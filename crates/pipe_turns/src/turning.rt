@@ -1,10 +1,10 @@
 //! Doing a turn: its call on the book, and what is sent then.
 
 ghost use Rattle.std.specs.Prelude.{◌≡◌, ◌<◌, Some, IfSome, length, option_map};
-ghost use Rattle.packet_codec.specs.Packets.{IsEncodable, SpellsPacket};
-ghost use Rattle.replica_core.specs.declared.ack_queue.TheConstants.{MAX_PENDING};
-ghost use Rattle.replica_model.specs.declared.events.ReplicaEvent.TheVariants as ReplicaEvent;
-ghost use Rattle.replica_files.specs.Endings.{BookEnds};
+ghost use Rattle.block_receiver.specs.PacketCodec.Packets.{IsEncodable, SpellsPacket};
+ghost use Rattle.packet_responder.specs.ReplicaCore.TheConstants.{MAX_PENDING};
+ghost use Rattle.block_receiver.specs.ReplicaModel.ReplicaEvent.TheVariants as ReplicaEvent;
+ghost use Rattle.block_receiver.specs.ReplicaFiles.Endings.{BookEnds};
 ghost use Rattle.block_receiver.specs.Packets.{booked_as};
 ghost use Rattle.packet_responder.specs.Sendings.{IsAnswering, booked_in};
 ghost use Rattle.pipe_turns.specs.Turning.{
@@ -18,15 +18,12 @@ ghost use Rattle.pipe_turns.specs.Turning.{
   sending_done,
 };
 
-use block_receiver::{Taken, pass_packet, taken_as};
+use block_receiver::{
+    Packet, ReplicaBook, ReplicaEvent, Taken, pass_packet, send_piece, take_room, taken_as,
+};
 use bytes::Bytes;
 use hd_base::{Conn, ConnId, Files, LinkOut, Receipt};
-use link_pieces::{send_piece, take_room};
-use packet_codec::Packet;
-use packet_responder::{Sending, book_and_send, book_event, sending_as};
-use replica_core::{Event, Refusal};
-use replica_files::ReplicaBook;
-use replica_model::ReplicaEvent;
+use packet_responder::{Event, Refusal, Sending, book_and_send, book_event, sending_as};
 use std::alloc::Global;
 
 /// How a turn's call on the book, and the sending that follows it, ended.

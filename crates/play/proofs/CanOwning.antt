@@ -6,7 +6,7 @@ use Rattle.hd_base.specs.declared.links.LinkOut as link_out
 use Rattle.hd_base.specs.declared.numbers.ConnId.{ConnId}
 use Rattle.hd_base.specs.declared.numbers.NodeId.{NodeId}
 use Rattle.hd_base.specs.declared.roads.TheConstants.{FIRST_PORT, MAX_NODES}
-use Rattle.member_core.specs.declared.requests.TheConstants.{MAX_PORT}
+use Rattle.node_starts.specs.MemberCore.TheConstants.{MAX_PORT}
 use Rattle.road_traffic.specs.Showing.{Net}
 use Rattle.writer_core.specs.declared.actions.Action.{Action}
 use Rattle.writer_core.specs.declared.actions.Action.TheVariants as action
@@ -25,26 +25,26 @@ use Rattle.world.specs.Worlds.{World}
 use Rattle.world.specs.Parts.{Told}
 use Rattle.world.specs.Enabled.{is_deed, is_question, acts_with}
 use Rattle.world.specs.Events.{happens, is_enabled}
-use Rattle.world_laws.proofs.FactTables.{and-left}
-use Rattle.world_texts.specs.Texts.{AllFit}
+use Rattle.play_model.proofs.WorldLaws.FactTables.{and-left}
+use Rattle.play_laws.specs.WorldTexts.Texts.{AllFit}
 use Rattle.play_model.specs.declared.dues.Due.TheVariants as due
 use Rattle.play_model.specs.Dues.{Queues, is_due, asking, acting, own_events}
 use Rattle.play_laws.specs.Taking.{MayTake, IsTaken}
 use Rattle.play_laws.specs.Writers.{needs_members, Rests}
 use Rattle.play_laws.proofs.Taking.{admitted-is}
-use Rattle.world_nets.specs.Nets.{is_over}
-use Rattle.member_events.specs.Joining.{SpellDown}
-use Rattle.client_events.specs.Events.{own_event}
-use Rattle.client_events.specs.Showing.{awaits}
-use Rattle.play_clients.specs.declared.clients.Client.{Client}
-use Rattle.play_clients.specs.declared.courses.Course.{Course}
-use Rattle.play_clients.specs.declared.courses.Course.TheVariants as course
-use Rattle.play_clients.specs.Clients.{known_of}
-use Rattle.play_clients.specs.Courses.{course_of}
-use Rattle.play_clients.specs.Events.{IsFirst, CanTake, CanActAlone, CanAskFirst, CanOwnAs, CanOwn}
-use Rattle.play_clients.proofs.CourseLaws.{IsCourse, course_is, takes_is, wanted_so, accepted_so, acts_done}
-use Rattle.client_events.specs.SettingUp.{IsWanted}
-use Rattle.client_events.specs.Committing.{IsAccepted}
+use Rattle.node_stops.specs.WorldNets.Nets.{is_over}
+use Rattle.node_stops.specs.MemberEvents.Joining.{SpellDown}
+use Rattle.play_dues.specs.ClientEvents.Events.{own_event}
+use Rattle.play_dues.specs.ClientEvents.Showing.{awaits}
+use Rattle.play_dues.specs.PlayClients.Client.{Client}
+use Rattle.play_dues.specs.PlayClients.Course.{Course}
+use Rattle.play_dues.specs.PlayClients.Course.TheVariants as course
+use Rattle.play_dues.specs.PlayClients.Clients.{known_of}
+use Rattle.play_dues.specs.PlayClients.Courses.{course_of}
+use Rattle.play_dues.specs.PlayClients.Events.{IsFirst, CanTake, CanActAlone, CanAskFirst, CanOwnAs, CanOwn}
+use Rattle.play_dues.proofs.PlayClients.CourseLaws.{IsCourse, course_is, takes_is, wanted_so, accepted_so, acts_done}
+use Rattle.play_dues.specs.ClientEvents.SettingUp.{IsWanted}
+use Rattle.play_dues.specs.ClientEvents.Committing.{IsAccepted}
 use Rattle.play.specs.declared.player.Player.{Player}
 use Rattle.play.specs.Laws.{Laws}
 use Rattle.play.specs.Showing.{IsClient}

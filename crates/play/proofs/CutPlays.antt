@@ -13,15 +13,15 @@ use Rattle.world.specs.declared.events.Event.TheVariants as event
 use Rattle.world.specs.Parts.{Writing}
 use Rattle.world.specs.Worlds.{World, start}
 use Rattle.world.specs.Events.{run}
-use Rattle.world_cuts.specs.Cutting.{cut_net, cut_world, IsCut, CutsRoads, CutsNet, CutsShow, CutsAreLosses, EndsStayInCuts, RoadsCut}
-use Rattle.world_cuts.proofs.CutLemmas.{over_cut}
+use Rattle.node_stops.specs.WorldCuts.Cutting.{cut_net, cut_world, IsCut, CutsRoads, CutsNet, CutsShow, CutsAreLosses, EndsStayInCuts, RoadsCut}
+use Rattle.node_stops.proofs.WorldCuts.CutLemmas.{over_cut}
 use Rattle.play_model.specs.Dues.{Queues}
 use Rattle.play_laws.specs.Nodes.{SameNodes}
-use Rattle.play_clients.specs.declared.clients.Client.{Client}
-use Rattle.play_clients.specs.Staying.{ClientsStay}
-use Rattle.play_nodes.specs.Frames.{KeepsNodes, KeepsWriters, EndsStay, NodesStay}
-use Rattle.play_nodes.specs.Showing.{NodesLeft}
-use Rattle.play_nodes.proofs.NodeFrames.{pipelines_stay}
+use Rattle.play_dues.specs.PlayClients.Client.{Client}
+use Rattle.play_dues.specs.PlayClients.Staying.{ClientsStay}
+use Rattle.node_stops.specs.PlayNodes.Frames.{KeepsNodes, KeepsWriters, EndsStay, NodesStay}
+use Rattle.node_stops.specs.PlayNodes.Showing.{NodesLeft}
+use Rattle.node_stops.proofs.PlayNodes.NodeFrames.{pipelines_stay}
 use Rattle.play.specs.declared.faults.PlayFault.{PlayFault}
 use Rattle.play.specs.declared.player.Player.{Player}
 use Rattle.play.specs.Cutting.{losses, HasCut, CutShows}

@@ -10,7 +10,7 @@ use Rattle.hd_base.specs.declared.numbers.BlockId.{BlockId}
 use Rattle.hd_base.specs.declared.numbers.ConnId.{ConnId}
 use Rattle.hd_base.specs.declared.roads.Roads as roads
 use Rattle.hd_base.specs.declared.roads.TheConstants.{FIRST_PORT, MAX_NODES}
-use Rattle.member_core.specs.declared.requests.TheConstants.{MAX_PORT}
+use Rattle.node_starts.specs.MemberCore.TheConstants.{MAX_PORT}
 use Rattle.world.specs.declared.events.Event.TheVariants as event
 use Rattle.world.specs.Parts as parts
 use Rattle.world.specs.Parts.{by_writer, by_member, by_reader, by_primary}
@@ -21,26 +21,26 @@ use Rattle.play_model.specs.declared.dues.Due.TheVariants as due
 use Rattle.play_model.specs.declared.asks.ReadAsk.{ReadAsk}
 use Rattle.play_model.specs.declared.recoveries.Recovery.{Recovery}
 use Rattle.play_model.specs.Dues.{Queues, is_unbegun, is_open, is_due}
-use Rattle.world_orders.specs.Orders.{purpose_of, reading, recovering}
-use Rattle.reader_events.specs.Asking.{CanAsk}
-use Rattle.play_readers.specs.declared.clients.ReadClient.{ReadClient}
-use Rattle.play_clients.specs.declared.clients.Client.{Client}
-use Rattle.play_nodes.specs.declared.connections.Upper.{Upper}
-use Rattle.play_nodes.specs.Dues.{IdleIs, TellsIdle, TellsElsewhere}
-use Rattle.play_nodes.proofs.Numbers.{same_place}
-use Rattle.play_nodes.proofs.PlaceLaws.{same_some}
-use Rattle.play_nodes.proofs.ReadyNodes.{served_within}
-use Rattle.play_nodes.specs.declared.connections.Connection.{Connection}
-use Rattle.play_nodes.specs.Showing.{UpperShows, is_pipeline, NodesShow}
-use Rattle.play_nodes.proofs.JoinNodes.{passes_at, place_there}
-use Rattle.play_nodes.proofs.Tables.{element}
+use Rattle.play_laws.specs.WorldOrders.Orders.{purpose_of, reading, recovering}
+use Rattle.play_dues.specs.ReaderEvents.Asking.{CanAsk}
+use Rattle.play_dues.specs.PlayReaders.ReadClient.{ReadClient}
+use Rattle.play_dues.specs.PlayClients.Client.{Client}
+use Rattle.node_stops.specs.PlayNodes.Upper.{Upper}
+use Rattle.node_stops.specs.PlayNodes.Dues.{IdleIs, TellsIdle, TellsElsewhere}
+use Rattle.node_stops.proofs.PlayNodes.Numbers.{same_place}
+use Rattle.node_stops.proofs.PlayNodes.PlaceLaws.{same_some}
+use Rattle.node_stops.proofs.PlayNodes.ReadyNodes.{served_within}
+use Rattle.node_stops.specs.PlayNodes.Connection.{Connection}
+use Rattle.node_stops.specs.PlayNodes.Showing.{UpperShows, is_pipeline, NodesShow}
+use Rattle.node_stops.proofs.PlayNodes.JoinNodes.{passes_at, place_there}
+use Rattle.node_stops.proofs.PlayNodes.Tables.{element}
 use Rattle.play_dues.specs.Conns.{writer_above}
 use Rattle.play_dues.specs.Places.{client_place}
 use Rattle.play_dues.specs.Primaries.{primary_client_place}
 use Rattle.play_dues.specs.Readers.{read_client_place}
-use Rattle.play_primaries.specs.declared.clients.PrimaryClient.{PrimaryClient}
-use Rattle.play_recoveries.specs.declared.dues.Dialler.{Dialler}
-use Rattle.play_recoveries.specs.Dues.{NoneReady, TellsDialler, pair_of}
+use Rattle.play_dues.specs.PlayPrimaries.PrimaryClient.{PrimaryClient}
+use Rattle.play_dues.specs.PlayRecoveries.Dialler.{Dialler}
+use Rattle.play_dues.specs.PlayRecoveries.Dues.{NoneReady, TellsDialler, pair_of}
 use Rattle.play_dues.specs.Showing.{HasClient}
 use Rattle.play_dues.proofs.ElsewhereLaws.{recovering_so, reading_so}
 use Rattle.play_dues.proofs.UpperLaws.{up_at, heard_conn, member_upper, writer_upper, none_is_some}

@@ -26,23 +26,23 @@ use Rattle.world.specs.Parts as parts
 use Rattle.world.specs.Parts.{by_writer, by_member, by_reader, by_primary, Writing}
 use Rattle.world.specs.Worlds.{World, start}
 use Rattle.world.specs.Events.{happens, run}
-use Rattle.world_laws.proofs.StampGivens.{put-here, put-there}
-use Rattle.world_requests.specs.Requests.{IsAmong}
+use Rattle.play_model.proofs.WorldLaws.StampGivens.{put-here, put-there}
+use Rattle.node_stops.specs.WorldRequests.Requests.{IsAmong}
 use Rattle.play_model.specs.declared.dues.Due.{Due}
 use Rattle.play_model.specs.declared.dues.Due.TheVariants as due
 use Rattle.play_model.specs.Dues.{Queues, is_due, due_events, queues_after, own_events, queue_left, action_of, acting}
 use Rattle.play_laws.specs.Intakes.{intake_of, is_wait}
 use Rattle.play_laws.specs.Members.{IsNode, Names}
 use Rattle.play_laws.proofs.Taking.{admitted-is}
-use Rattle.play_clients.specs.declared.clients.Client.{Client}
-use Rattle.play_clients.specs.Clients.{known_of}
-use Rattle.play_clients.proofs.CourseLaws.{fresh_waits}
+use Rattle.play_dues.specs.PlayClients.Client.{Client}
+use Rattle.play_dues.specs.PlayClients.Clients.{known_of}
+use Rattle.play_dues.proofs.PlayClients.CourseLaws.{fresh_waits}
 use Rattle.play_model.specs.declared.asks.ReadAsk.{ReadAsk}
 use Rattle.play_model.specs.Asks.{request_of, asking_node}
-use Rattle.play_readers.specs.declared.clients.ReadClient.{ReadClient}
-use Rattle.play_readers.specs.Asks.{asks_of}
-use Rattle.play_primaries.specs.declared.clients.PrimaryClient.{PrimaryClient}
-use Rattle.play_recoveries.specs.Places.{recoveries_of}
+use Rattle.play_dues.specs.PlayReaders.ReadClient.{ReadClient}
+use Rattle.play_dues.specs.PlayReaders.Asks.{asks_of}
+use Rattle.play_dues.specs.PlayPrimaries.PrimaryClient.{PrimaryClient}
+use Rattle.play_dues.specs.PlayRecoveries.Places.{recoveries_of}
 use Rattle.recovery_core.specs.declared.primary.OwnStep.{OwnStep}
 use Rattle.recovery_core.specs.declared.primary.OwnStep.TheVariants as step
 use Rattle.recovery_core.specs.Primaries as recovery

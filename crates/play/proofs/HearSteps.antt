@@ -9,42 +9,42 @@ use Rattle.hd_base.specs.declared.numbers.ConnId.{ConnId}
 use Rattle.hd_base.specs.declared.roads.Roads as roads
 use Rattle.name_core.specs.declared.desks.Desk as desks
 use Rattle.name_core.specs.Offices.{OfficeState}
-use Rattle.pipe_recovery.specs.declared.links.Link.{Link}
-use Rattle.pipe_recovery.specs.Dialling.{LinkIsKnown}
+use Rattle.play_dues.specs.PipeRecovery.Link.{Link}
+use Rattle.play_dues.specs.PipeRecovery.Dialling.{LinkIsKnown}
 use Rattle.road_traffic.specs.Showing.{Net, RoadsShow}
 use Rattle.world.specs.declared.events.Event.{Event}
 use Rattle.world.specs.declared.events.Event.TheVariants as event
 use Rattle.world.specs.Parts.{by_writer}
 use Rattle.world.specs.Worlds.{World}
 use Rattle.world.specs.Events.{happens}
-use Rattle.world_nets.specs.Ends.{IsElsewhere}
-use Rattle.world_nets.specs.Nets.{is_over}
-use Rattle.world_orders.specs.Orders.{Ordered}
+use Rattle.node_stops.specs.WorldNets.Ends.{IsElsewhere}
+use Rattle.node_stops.specs.WorldNets.Nets.{is_over}
+use Rattle.play_laws.specs.WorldOrders.Orders.{Ordered}
 use Rattle.play_model.specs.declared.dues.Due.TheVariants as due
 use Rattle.play_model.specs.Dues.{Queues, is_due}
-use Rattle.client_events.specs.declared.faults.ClientFault.{ClientFault}
-use Rattle.client_events.specs.declared.faults.ClientFault.TheVariants as client_fault
-use Rattle.client_events.specs.declared.pipes.Pipe.{Pipe}
-use Rattle.client_events.specs.declared.pipes.Pipe.TheVariants as pipe
-use Rattle.client_events.specs.Showing.{LinkShows, PipeShows, PipeIsKnown, OthersStay}
-use Rattle.play_clients.specs.declared.clients.Client.{Client}
-use Rattle.play_clients.specs.Clients.{ClientStands}
-use Rattle.play_clients.specs.Events as clients
-use Rattle.play_clients.specs.Others.{KeepsOthers, TakesThere, HearingKeeps}
-use Rattle.play_clients.specs.Staying.{KeepsClient, ClientsStay}
-use Rattle.play_nodes.specs.declared.nodes.Nodes.{Nodes}
-use Rattle.play_nodes.specs.Showing.{runs_in, NodesShow}
-use Rattle.play_nodes.specs.Frames.{HearKeeps, HeardKeeps, NodesStay, NodesEndsStay}
-use Rattle.play_nodes.proofs.MemberNodes.{known}
-use Rattle.play_nodes.proofs.Tables.{SetOr, set_or}
+use Rattle.play_dues.specs.ClientEvents.ClientFault.{ClientFault}
+use Rattle.play_dues.specs.ClientEvents.ClientFault.TheVariants as client_fault
+use Rattle.play_dues.specs.ClientEvents.Pipe.{Pipe}
+use Rattle.play_dues.specs.ClientEvents.Pipe.TheVariants as pipe
+use Rattle.play_dues.specs.ClientEvents.Showing.{LinkShows, PipeShows, PipeIsKnown, OthersStay}
+use Rattle.play_dues.specs.PlayClients.Client.{Client}
+use Rattle.play_dues.specs.PlayClients.Clients.{ClientStands}
+use Rattle.play_dues.specs.PlayClients.Events as clients
+use Rattle.play_dues.specs.PlayClients.Others.{KeepsOthers, TakesThere, HearingKeeps}
+use Rattle.play_dues.specs.PlayClients.Staying.{KeepsClient, ClientsStay}
+use Rattle.node_stops.specs.PlayNodes.Nodes.{Nodes}
+use Rattle.node_stops.specs.PlayNodes.Showing.{runs_in, NodesShow}
+use Rattle.node_stops.specs.PlayNodes.Frames.{HearKeeps, HeardKeeps, NodesStay, NodesEndsStay}
+use Rattle.node_stops.proofs.PlayNodes.MemberNodes.{known}
+use Rattle.node_stops.proofs.PlayNodes.Tables.{SetOr, set_or}
 use Rattle.play.specs.declared.faults.PlayFault.{PlayFault}
 use Rattle.play.specs.declared.player.Player.{Player}
-use Rattle.play_reads.specs.declared.reads.Reads.{Reads}
-use Rattle.play_readers.specs.Asks.{asks_of}
-use Rattle.play_reads.specs.Showing.{ReadsShow}
-use Rattle.play_recoveries.specs.declared.recoveries.Recoveries.{Recoveries}
-use Rattle.play_recoveries.specs.Places.{recoveries_of}
-use Rattle.play_recoveries.specs.Showing.{RecoveriesShow}
+use Rattle.play_dues.specs.PlayReads.Reads.{Reads}
+use Rattle.play_dues.specs.PlayReaders.Asks.{asks_of}
+use Rattle.play_dues.specs.PlayReads.Showing.{ReadsShow}
+use Rattle.play_dues.specs.PlayRecoveries.Recoveries.{Recoveries}
+use Rattle.play_dues.specs.PlayRecoveries.Places.{recoveries_of}
+use Rattle.play_dues.specs.PlayRecoveries.Showing.{RecoveriesShow}
 use Rattle.play.specs.Faults.{of_client}
 use Rattle.play.specs.Laws.{PipelinesLeave}
 use Rattle.play.specs.Showing.{IsClient, AreApart, PlayerShows, PlayerStands}

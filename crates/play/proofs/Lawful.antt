@@ -15,24 +15,24 @@ use Rattle.world.specs.declared.events.Event.TheVariants as event
 use Rattle.world.specs.Parts.{Primary, no_primary, was_told, leads, has_led}
 use Rattle.world.specs.Worlds.{World, start}
 use Rattle.world.specs.Events.{run}
-use Rattle.world_breaks.specs.Breaks.{NoneFails}
-use Rattle.world_orders.specs.Orders.{Ordered}
-use Rattle.world_requests.specs.Requests.{AllAmong}
-use Rattle.world_texts.specs.Texts.{Written, AllFit}
+use Rattle.node_starts.specs.WorldBreaks.Breaks.{NoneFails}
+use Rattle.play_laws.specs.WorldOrders.Orders.{Ordered}
+use Rattle.node_stops.specs.WorldRequests.Requests.{AllAmong}
+use Rattle.play_laws.specs.WorldTexts.Texts.{Written, AllFit}
 use Rattle.play_laws.specs.Members.{IsNode, AllName}
 use Rattle.play_laws.specs.Writers.{needs_members}
-use Rattle.play_clients.specs.Events.{HearIsLawful, AcceptedIsQuiet}
-use Rattle.play_nodes.specs.Events.{IsLawful}
-use Rattle.play_reads.specs.Hearing as reads_hear
-use Rattle.play_reads.specs.Owning as reads_own
-use Rattle.play_reads.specs.Serving.{ServesInOrder}
+use Rattle.play_dues.specs.PlayClients.Events.{HearIsLawful, AcceptedIsQuiet}
+use Rattle.node_stops.specs.PlayNodes.Events.{IsLawful}
+use Rattle.play_dues.specs.PlayReads.Hearing as reads_hear
+use Rattle.play_dues.specs.PlayReads.Owning as reads_own
+use Rattle.play_dues.specs.PlayReads.Serving.{ServesInOrder}
 use Rattle.play_model.specs.declared.recoveries.Recovery.{Recovery}
 use Rattle.play_model.specs.Recoveries.{leads_events}
-use Rattle.play_primaries.specs.Dues.{ArePlaced}
-use Rattle.play_primaries.specs.Hearing as told
-use Rattle.play_primaries.specs.Owning.{own_events, step_events}
-use Rattle.play_recoveries.specs.Owning as leading
-use Rattle.play_recoveries.specs.Serving as answering
+use Rattle.play_dues.specs.PlayPrimaries.Dues.{ArePlaced}
+use Rattle.play_dues.specs.PlayPrimaries.Hearing as told
+use Rattle.play_dues.specs.PlayPrimaries.Owning.{own_events, step_events}
+use Rattle.play_dues.specs.PlayRecoveries.Owning as leading
+use Rattle.play_dues.specs.PlayRecoveries.Serving as answering
 use Rattle.recovery_core.specs.declared.primary.OwnStep.{OwnStep}
 use Rattle.recovery_core.specs.declared.primary.OwnStep.TheVariants as step
 use Rattle.recovery_core.specs.Primaries.{own_step}

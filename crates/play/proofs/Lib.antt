@@ -12,3 +12,10 @@ pub mod OthersLaws
 pub mod ReadSteps
 pub mod RecoverySteps
 pub mod RecoveryEvents
+pub mod NodeOpening
+pub mod NodeStarts
+pub mod PlayClients
+pub mod PlayDues
+pub mod PlayNodes
+pub mod PlayReaders
+pub mod WorldStops

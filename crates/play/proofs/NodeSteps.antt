@@ -13,23 +13,23 @@ use Rattle.world.specs.declared.events.Event.TheVariants as event
 use Rattle.world.specs.Parts.{Dialled, Marks, Writing, by_writer}
 use Rattle.world.specs.Worlds.{World}
 use Rattle.world.specs.Events.{happens}
-use Rattle.world_nets.specs.Nets.{is_over}
-use Rattle.world_orders.specs.Orders.{Ordered, IsWriterConn}
+use Rattle.node_stops.specs.WorldNets.Nets.{is_over}
+use Rattle.play_laws.specs.WorldOrders.Orders.{Ordered, IsWriterConn}
 use Rattle.play_model.specs.Dues.{Queues}
-use Rattle.play_clients.specs.declared.clients.Client.{Client}
-use Rattle.play_clients.specs.Staying.{KeepsClient, ClientsStay}
-use Rattle.play_nodes.specs.declared.faults.NodesFault.{NodesFault}
-use Rattle.play_nodes.specs.declared.faults.NodesFault.TheVariants as nodes_fault
-use Rattle.play_nodes.specs.declared.nodes.Nodes.{Nodes}
+use Rattle.play_dues.specs.PlayClients.Client.{Client}
+use Rattle.play_dues.specs.PlayClients.Staying.{KeepsClient, ClientsStay}
+use Rattle.node_stops.specs.PlayNodes.NodesFault.{NodesFault}
+use Rattle.node_stops.specs.PlayNodes.NodesFault.TheVariants as nodes_fault
+use Rattle.node_stops.specs.PlayNodes.Nodes.{Nodes}
 use Rattle.play_laws.specs.Nodes.{SameNodes, RunningStays}
-use Rattle.play_nodes.specs.Beginning as beginning
-use Rattle.play_nodes.specs.Events as nodes
-use Rattle.play_nodes.specs.Frames.{KeepsWriters, DownKeeps, ReadyKeeps, MirrorKeeps}
-use Rattle.play_nodes.specs.Showing.{runs_in, TellsRunning, NodesLeft, WritersStay, ElsewhereStays}
-use Rattle.play_readers.specs.Asks.{asks_of}
-use Rattle.play_reads.specs.Keeping.{KeepsReads}
-use Rattle.play_recoveries.specs.Places.{recoveries_of}
-use Rattle.play_recoveries.specs.Showing.{RecoveriesShow}
+use Rattle.node_stops.specs.PlayNodes.Beginning as beginning
+use Rattle.node_stops.specs.PlayNodes.Events as nodes
+use Rattle.node_stops.specs.PlayNodes.Frames.{KeepsWriters, DownKeeps, ReadyKeeps, MirrorKeeps}
+use Rattle.node_stops.specs.PlayNodes.Showing.{runs_in, TellsRunning, NodesLeft, WritersStay, ElsewhereStays}
+use Rattle.play_dues.specs.PlayReaders.Asks.{asks_of}
+use Rattle.play_dues.specs.PlayReads.Keeping.{KeepsReads}
+use Rattle.play_dues.specs.PlayRecoveries.Places.{recoveries_of}
+use Rattle.play_dues.specs.PlayRecoveries.Showing.{RecoveriesShow}
 use Rattle.play.specs.declared.faults.PlayFault.{PlayFault}
 use Rattle.play.specs.declared.faults.PlayFault.TheVariants as fault
 use Rattle.play.specs.declared.player.Player.{Player}

@@ -6,14 +6,14 @@ use Rattle.hd_base.specs.declared.numbers.BlockId.{BlockId}
 use Rattle.road_traffic.specs.Showing.{Net}
 use Rattle.world.specs.Parts.{Upper, by_writer, by_member, by_reader, by_primary}
 use Rattle.world.specs.Worlds.{World}
-use Rattle.world_orders.specs.Orders.{purpose_of, recovering}
-use Rattle.play_nodes.specs.Showing.{is_pipeline}
-use Rattle.play_reads.specs.declared.reads.Reads.{Reads}
-use Rattle.play_reads.specs.Keeping.{ReadsStay, KeepsReads}
-use Rattle.play_reads.specs.Showing.{ReadsShow}
-use Rattle.play_recoveries.specs.declared.recoveries.Recoveries.{Recoveries}
-use Rattle.play_recoveries.specs.Keeping.{RecoveriesStay, KeepsRecoveries}
-use Rattle.play_recoveries.specs.Showing.{RecoveriesShow}
+use Rattle.play_laws.specs.WorldOrders.Orders.{purpose_of, recovering}
+use Rattle.node_stops.specs.PlayNodes.Showing.{is_pipeline}
+use Rattle.play_dues.specs.PlayReads.Reads.{Reads}
+use Rattle.play_dues.specs.PlayReads.Keeping.{ReadsStay, KeepsReads}
+use Rattle.play_dues.specs.PlayReads.Showing.{ReadsShow}
+use Rattle.play_dues.specs.PlayRecoveries.Recoveries.{Recoveries}
+use Rattle.play_dues.specs.PlayRecoveries.Keeping.{RecoveriesStay, KeepsRecoveries}
+use Rattle.play_dues.specs.PlayRecoveries.Showing.{RecoveriesShow}
 
 -- What reads and recoveries show is kept.
 pub record KeepsShown {I O : Type 0} (i : link_in.Ghosts I) (o : link_out.Ghosts O) (w : World) (net : Net) (v : World) (made : Net) : Type 0 where

@@ -6,9 +6,9 @@ use Rattle.hd_base.specs.Faults.{FaultsIncreased}
 use Rattle.hd_base.specs.declared.numbers.BlockId.{BlockId}
 use Rattle.hd_base.specs.declared.numbers.NodeId.{NodeId}
 use Rattle.world.specs.declared.events.Event.{Event}
-use Rattle.play_clients.specs.declared.clients.Owned.{Owned}
-use Rattle.play_clients.specs.Events.{owned_events}
-use Rattle.client_events.specs.Events.{own_event}
+use Rattle.play_dues.specs.PlayClients.Owned.{Owned}
+use Rattle.play_dues.specs.PlayClients.Events.{owned_events}
+use Rattle.play_dues.specs.ClientEvents.Events.{own_event}
 use Rattle.play.specs.declared.faults.PlayFault.{PlayFault}
 use Rattle.play.specs.declared.faults.PlayFault.TheVariants as fault
 use Rattle.play.specs.declared.player.Player.{Player}
@@ -22,30 +22,30 @@ use Rattle.name_core.specs.Offices.{OfficeState}
 use Rattle.road_traffic.specs.Showing.{Net}
 use Rattle.world.specs.Worlds.{World, put}
 use Rattle.world.specs.Events.{run}
-use Rattle.world_laws.proofs.StampGivens.{put-there}
-use Rattle.world_nets.specs.Nets.{IsEndOf}
-use Rattle.world_orders.specs.Orders.{Ordered}
+use Rattle.play_model.proofs.WorldLaws.StampGivens.{put-there}
+use Rattle.node_stops.specs.WorldNets.Nets.{IsEndOf}
+use Rattle.play_laws.specs.WorldOrders.Orders.{Ordered}
 use Rattle.play_model.specs.declared.dues.Due.TheVariants as due
 use Rattle.play_model.specs.Dues.{Queues, is_due, queues_after, queue_left, action_of}
-use Rattle.play_clients.specs.declared.clients.Client.{Client}
-use Rattle.play_clients.specs.declared.clients.First.{First}
-use Rattle.play_clients.specs.Clients.{ClientStands}
-use Rattle.play_clients.specs.Events as clients
-use Rattle.play_clients.specs.Events.{CanOwn, FirstShows}
-use Rattle.play_clients.specs.Others.{KeepsOthers, TakesNothing, OwnStepsKeep}
-use Rattle.play_clients.specs.Staying.{ClientsStay}
-use Rattle.play_nodes.specs.declared.nodes.Nodes.{Nodes}
-use Rattle.play_nodes.specs.Frames.{IsKept, DialShows, IsFirst, WriterKeeps, NodesStay, NodesEndsStay, OwnKeeps}
-use Rattle.play_nodes.specs.Showing.{runs_in, TellsRunning, NodesShow}
-use Rattle.client_events.specs.Showing.{OthersStay}
-use Rattle.play_reads.specs.declared.reads.Reads.{Reads}
-use Rattle.play_reads.specs.Keeping.{KeepsReads}
-use Rattle.play_recoveries.specs.Keeping.{KeepsRecoveries}
-use Rattle.play_readers.specs.Asks.{asks_of}
-use Rattle.play_reads.specs.Showing.{ReadsShow}
-use Rattle.play_recoveries.specs.declared.recoveries.Recoveries.{Recoveries}
-use Rattle.play_recoveries.specs.Places.{recoveries_of}
-use Rattle.play_recoveries.specs.Showing.{RecoveriesShow}
+use Rattle.play_dues.specs.PlayClients.Client.{Client}
+use Rattle.play_dues.specs.PlayClients.First.{First}
+use Rattle.play_dues.specs.PlayClients.Clients.{ClientStands}
+use Rattle.play_dues.specs.PlayClients.Events as clients
+use Rattle.play_dues.specs.PlayClients.Events.{CanOwn, FirstShows}
+use Rattle.play_dues.specs.PlayClients.Others.{KeepsOthers, TakesNothing, OwnStepsKeep}
+use Rattle.play_dues.specs.PlayClients.Staying.{ClientsStay}
+use Rattle.node_stops.specs.PlayNodes.Nodes.{Nodes}
+use Rattle.node_stops.specs.PlayNodes.Frames.{IsKept, DialShows, IsFirst, WriterKeeps, NodesStay, NodesEndsStay, OwnKeeps}
+use Rattle.node_stops.specs.PlayNodes.Showing.{runs_in, TellsRunning, NodesShow}
+use Rattle.play_dues.specs.ClientEvents.Showing.{OthersStay}
+use Rattle.play_dues.specs.PlayReads.Reads.{Reads}
+use Rattle.play_dues.specs.PlayReads.Keeping.{KeepsReads}
+use Rattle.play_dues.specs.PlayRecoveries.Keeping.{KeepsRecoveries}
+use Rattle.play_dues.specs.PlayReaders.Asks.{asks_of}
+use Rattle.play_dues.specs.PlayReads.Showing.{ReadsShow}
+use Rattle.play_dues.specs.PlayRecoveries.Recoveries.{Recoveries}
+use Rattle.play_dues.specs.PlayRecoveries.Places.{recoveries_of}
+use Rattle.play_dues.specs.PlayRecoveries.Showing.{RecoveriesShow}
 use Rattle.play.specs.Laws.{PipelinesLeave}
 use Rattle.play.specs.Showing.{PlayerShows}
 use Rattle.play.proofs.OthersLaws.{reads_left, recoveries_left}
@@ -54,7 +54,7 @@ use Rattle.hd_base.specs.RoadFaults.{RoadsFailed}
 use Rattle.play.specs.Events.{PlayerLeft, IsCaused, blocks_of, KeepsPlaces}
 use Rattle.play.proofs.HearSteps.{IsReplaced, kept_places, keeps_other, clients_after, still_apart, same_client, client_caused}
 use Rattle.play.specs.Faults.{of_client}
-use Rattle.client_events.specs.declared.faults.ClientFault.{ClientFault}
+use Rattle.play_dues.specs.ClientEvents.ClientFault.{ClientFault}
 
 module _ {F I O : Type 0} (i : link_in.Ghosts I) (o : link_out.Ghosts O) where
   -- memory ran out while what was left was kept

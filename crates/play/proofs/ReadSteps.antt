@@ -13,29 +13,29 @@ use Rattle.world.specs.declared.events.Event.TheVariants as event
 use Rattle.world.specs.Parts.{Upper, by_writer, by_reader, by_member, by_primary}
 use Rattle.world.specs.Worlds.{World}
 use Rattle.world.specs.Events.{happens}
-use Rattle.world_orders.specs.Orders.{Ordered, purpose_of, reading}
+use Rattle.play_laws.specs.WorldOrders.Orders.{Ordered, purpose_of, reading}
 use Rattle.play_model.specs.Asks.{asking_node, request_of}
 use Rattle.play_model.specs.Dues.{Queues}
 use Rattle.play_laws.specs.Nodes.{SameNodes}
-use Rattle.play_clients.specs.Staying.{ClientsStay}
-use Rattle.play_nodes.specs.declared.nodes.Nodes.{Nodes}
-use Rattle.play_nodes.specs.Frames.{KeepsWriters}
-use Rattle.play_nodes.specs.Places.{KeepsSizes}
-use Rattle.play_nodes.proofs.PlaceLaws.{same_some}
-use Rattle.play_readers.specs.declared.clients.ReadClient.{ReadClient}
-use Rattle.play_readers.specs.Frames.{KeepsOthers, TakesNothing, TakesThere}
-use Rattle.play_reads.specs.declared.faults.ReadsFault.{ReadsFault}
-use Rattle.play_reads.specs.declared.faults.ReadsFault.TheVariants as reads_fault
-use Rattle.play_reads.specs.declared.reads.Reads.{Reads}
-use Rattle.play_reads.specs.Faults as reads_faults
-use Rattle.play_reads.specs.Hearing as hearing
-use Rattle.play_reads.specs.Left.{ReadsLeft}
-use Rattle.play_reads.specs.Owning as owning
-use Rattle.play_readers.specs.Asks.{asks_of}
-use Rattle.play_reads.specs.Serving as serving
-use Rattle.play_recoveries.specs.Keeping.{RecoveringEndsStay, KeepsRecoveries}
-use Rattle.play_recoveries.specs.Places.{recoveries_of}
-use Rattle.play_reads.specs.Showing.{Stand}
+use Rattle.play_dues.specs.PlayClients.Staying.{ClientsStay}
+use Rattle.node_stops.specs.PlayNodes.Nodes.{Nodes}
+use Rattle.node_stops.specs.PlayNodes.Frames.{KeepsWriters}
+use Rattle.node_stops.specs.PlayNodes.Places.{KeepsSizes}
+use Rattle.node_stops.proofs.PlayNodes.PlaceLaws.{same_some}
+use Rattle.play_dues.specs.PlayReaders.ReadClient.{ReadClient}
+use Rattle.play_dues.specs.PlayReaders.Frames.{KeepsOthers, TakesNothing, TakesThere}
+use Rattle.play_dues.specs.PlayReads.ReadsFault.{ReadsFault}
+use Rattle.play_dues.specs.PlayReads.ReadsFault.TheVariants as reads_fault
+use Rattle.play_dues.specs.PlayReads.Reads.{Reads}
+use Rattle.play_dues.specs.PlayReads.Faults as reads_faults
+use Rattle.play_dues.specs.PlayReads.Hearing as hearing
+use Rattle.play_dues.specs.PlayReads.Left.{ReadsLeft}
+use Rattle.play_dues.specs.PlayReads.Owning as owning
+use Rattle.play_dues.specs.PlayReaders.Asks.{asks_of}
+use Rattle.play_dues.specs.PlayReads.Serving as serving
+use Rattle.play_dues.specs.PlayRecoveries.Keeping.{RecoveringEndsStay, KeepsRecoveries}
+use Rattle.play_dues.specs.PlayRecoveries.Places.{recoveries_of}
+use Rattle.play_dues.specs.PlayReads.Showing.{Stand}
 use Rattle.play.specs.declared.faults.PlayFault.{PlayFault}
 use Rattle.play.specs.declared.player.Player.{Player}
 use Rattle.play.specs.Events.{IsKept, Keeps, IsCaused, writer_at, blocks_of, KeepsPlaces}

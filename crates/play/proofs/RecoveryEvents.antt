@@ -1,9 +1,9 @@
 -- What the own step of a primary, to whose dials all nodes that run answer, leaves of the others.
 use Rattle.play_model.specs.declared.recoveries.Recovery.{Recovery}
 use Rattle.play_model.specs.Recoveries.{all_answered, primary_events, recovery_events}
-use Rattle.play_primaries.specs.Frames as primaries
-use Rattle.play_primaries.specs.Owning.{step_events}
-use Rattle.play_readers.specs.Frames.{TakesNothing, KeepsNodes}
+use Rattle.play_dues.specs.PlayPrimaries.Frames as primaries
+use Rattle.play_dues.specs.PlayPrimaries.Owning.{step_events}
+use Rattle.play_dues.specs.PlayReaders.Frames.{TakesNothing, KeepsNodes}
 use Rattle.std.proofs.Common.{◌≡◌, ℕ, List, refl, subst}
 use Rattle.world.specs.declared.events.Event.{Event}
 use Rattle.world.specs.Events.{run}

@@ -14,32 +14,32 @@ use Rattle.world.specs.declared.events.Event.TheVariants as event
 use Rattle.world.specs.Parts.{Upper, by_writer, by_reader, by_member, by_primary}
 use Rattle.world.specs.Worlds.{World}
 use Rattle.world.specs.Events.{happens, run}
-use Rattle.world_orders.specs.Orders.{Ordered, purpose_of, recovering}
+use Rattle.play_laws.specs.WorldOrders.Orders.{Ordered, purpose_of, recovering}
 use Rattle.play_model.specs.declared.recoveries.Recovery.{Recovery}
 use Rattle.play_model.specs.Dues.{Queues}
 use Rattle.play_model.specs.Recoveries.{recovery_events}
 use Rattle.play_laws.specs.Nodes.{SameNodes}
-use Rattle.play_clients.specs.Staying.{ClientsStay}
-use Rattle.play_nodes.specs.declared.nodes.Nodes.{Nodes}
-use Rattle.play_nodes.specs.Places.{KeepsSizes}
-use Rattle.play_nodes.specs.Showing.{TellsRunning}
-use Rattle.play_nodes.proofs.PlaceLaws.{same_some}
-use Rattle.play_readers.specs.Asks.{asks_of}
-use Rattle.play_reads.specs.Keeping.{ReadingEndsStay, KeepsReads, ReadsStay}
-use Rattle.play_primaries.specs.declared.clients.PrimaryClient.{PrimaryClient}
-use Rattle.play_primaries.specs.declared.deeds.Deed.{Deed}
-use Rattle.play_primaries.specs.Deeds.{deed_events, TellsDeed}
-use Rattle.play_primaries.specs.Frames as primaries
-use Rattle.play_recoveries.specs.declared.faults.RecoveriesFault.{RecoveriesFault}
-use Rattle.play_recoveries.specs.declared.faults.RecoveriesFault.TheVariants as recoveries_fault
-use Rattle.play_recoveries.specs.declared.recoveries.Recoveries.{Recoveries}
-use Rattle.play_recoveries.specs.Faults as recoveries_faults
-use Rattle.play_recoveries.specs.Hearing as hearing
-use Rattle.play_recoveries.specs.Left.{RecoveriesLeft}
-use Rattle.play_recoveries.specs.Owning as owning
-use Rattle.play_recoveries.specs.Places.{recoveries_of}
-use Rattle.play_recoveries.specs.Serving as serving
-use Rattle.play_recoveries.specs.Showing.{Stand}
+use Rattle.play_dues.specs.PlayClients.Staying.{ClientsStay}
+use Rattle.node_stops.specs.PlayNodes.Nodes.{Nodes}
+use Rattle.node_stops.specs.PlayNodes.Places.{KeepsSizes}
+use Rattle.node_stops.specs.PlayNodes.Showing.{TellsRunning}
+use Rattle.node_stops.proofs.PlayNodes.PlaceLaws.{same_some}
+use Rattle.play_dues.specs.PlayReaders.Asks.{asks_of}
+use Rattle.play_dues.specs.PlayReads.Keeping.{ReadingEndsStay, KeepsReads, ReadsStay}
+use Rattle.play_dues.specs.PlayPrimaries.PrimaryClient.{PrimaryClient}
+use Rattle.play_dues.specs.PlayPrimaries.Deed.{Deed}
+use Rattle.play_dues.specs.PlayPrimaries.Deeds.{deed_events, TellsDeed}
+use Rattle.play_dues.specs.PlayPrimaries.Frames as primaries
+use Rattle.play_dues.specs.PlayRecoveries.RecoveriesFault.{RecoveriesFault}
+use Rattle.play_dues.specs.PlayRecoveries.RecoveriesFault.TheVariants as recoveries_fault
+use Rattle.play_dues.specs.PlayRecoveries.Recoveries.{Recoveries}
+use Rattle.play_dues.specs.PlayRecoveries.Faults as recoveries_faults
+use Rattle.play_dues.specs.PlayRecoveries.Hearing as hearing
+use Rattle.play_dues.specs.PlayRecoveries.Left.{RecoveriesLeft}
+use Rattle.play_dues.specs.PlayRecoveries.Owning as owning
+use Rattle.play_dues.specs.PlayRecoveries.Places.{recoveries_of}
+use Rattle.play_dues.specs.PlayRecoveries.Serving as serving
+use Rattle.play_dues.specs.PlayRecoveries.Showing.{Stand}
 use Rattle.play.specs.declared.faults.PlayFault.{PlayFault}
 use Rattle.play.specs.declared.player.Player.{Player}
 use Rattle.play.specs.Events.{IsKept, Keeps, IsCaused, writer_at, blocks_of, KeepsPlaces}

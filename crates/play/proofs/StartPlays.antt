@@ -12,13 +12,13 @@ use Rattle.world.specs.declared.events.Event.TheVariants as event
 use Rattle.world.specs.Parts.{Writing}
 use Rattle.world.specs.Worlds.{World, put, start}
 use Rattle.world.specs.Events.{happens, run}
-use Rattle.world_breaks.specs.Breaks.{UnbrokenWithoutFaults}
+use Rattle.node_starts.specs.WorldBreaks.Breaks.{UnbrokenWithoutFaults}
 use Rattle.play_model.specs.Dues.{Queues}
-use Rattle.play_clients.specs.declared.clients.Client.{Client}
-use Rattle.play_clients.specs.Staying.{ClientsStay}
-use Rattle.play_nodes.specs.declared.nodes.Nodes.{Nodes}
-use Rattle.play_nodes.specs.Frames.{KeepsWriters}
-use Rattle.play_nodes.specs.Showing.{NodesLeft}
+use Rattle.play_dues.specs.PlayClients.Client.{Client}
+use Rattle.play_dues.specs.PlayClients.Staying.{ClientsStay}
+use Rattle.node_stops.specs.PlayNodes.Nodes.{Nodes}
+use Rattle.node_stops.specs.PlayNodes.Frames.{KeepsWriters}
+use Rattle.node_stops.specs.PlayNodes.Showing.{NodesLeft}
 use Rattle.node_starts.specs.declared.faults.StartFault.{StartFault}
 use Rattle.node_starts.specs.declared.faults.StartFault.TheVariants as start_fault
 use Rattle.node_starts.specs.Faults.{HasStartCause}
@@ -26,12 +26,12 @@ use Rattle.node_starts.specs.Books.{NodeTells}
 use Rattle.node_starts.specs.Lives.{DialsAreLived}
 use Rattle.node_starts.specs.Starting as node
 use Rattle.node_starts.proofs.StartLemmas.{start_is}
-use Rattle.play_reads.specs.Keeping.{StartsKeepReads}
-use Rattle.play_readers.specs.Asks.{asks_of}
-use Rattle.play_reads.specs.Showing.{ReadsShow}
-use Rattle.play_recoveries.specs.Keeping.{StartsKeepRecoveries}
-use Rattle.play_recoveries.specs.Places.{recoveries_of}
-use Rattle.play_recoveries.specs.Showing.{RecoveriesShow}
+use Rattle.play_dues.specs.PlayReads.Keeping.{StartsKeepReads}
+use Rattle.play_dues.specs.PlayReaders.Asks.{asks_of}
+use Rattle.play_dues.specs.PlayReads.Showing.{ReadsShow}
+use Rattle.play_dues.specs.PlayRecoveries.Keeping.{StartsKeepRecoveries}
+use Rattle.play_dues.specs.PlayRecoveries.Places.{recoveries_of}
+use Rattle.play_dues.specs.PlayRecoveries.Showing.{RecoveriesShow}
 use Rattle.play.proofs.OthersLaws.{recovering_elsewhere}
 use Rattle.play.specs.declared.faults.PlayFault.{PlayFault}
 use Rattle.play.specs.declared.player.Player.{Player}

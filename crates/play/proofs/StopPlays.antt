@@ -13,31 +13,31 @@ use Rattle.world.specs.Parts.{Dialled, Marks, Writing, by_writer}
 use Rattle.world.specs.Connections.{is_of_node, stopped_marks}
 use Rattle.world.specs.Worlds.{World, put, start}
 use Rattle.world.specs.Events.{stop, happens, run}
-use Rattle.world_stops.specs.Origins.{DialsHaveOrigins}
-use Rattle.world_stops.proofs.StopLemmas.{stop_is}
+use Rattle.node_stops.specs.WorldStops.Origins.{DialsHaveOrigins}
+use Rattle.node_stops.proofs.WorldStops.StopLemmas.{stop_is}
 use Rattle.play_model.specs.Dues.{Queues}
-use Rattle.play_clients.specs.declared.clients.Client.{Client}
-use Rattle.play_clients.specs.Staying.{ClientsStay}
-use Rattle.play_nodes.specs.declared.nodes.Nodes.{Nodes}
-use Rattle.play_nodes.specs.Frames.{KeepsWriters}
-use Rattle.play_nodes.specs.Places.{KeepsSizes}
-use Rattle.play_nodes.specs.Showing.{NodesLeft, WritersStay}
+use Rattle.play_dues.specs.PlayClients.Client.{Client}
+use Rattle.play_dues.specs.PlayClients.Staying.{ClientsStay}
+use Rattle.node_stops.specs.PlayNodes.Nodes.{Nodes}
+use Rattle.node_stops.specs.PlayNodes.Frames.{KeepsWriters}
+use Rattle.node_stops.specs.PlayNodes.Places.{KeepsSizes}
+use Rattle.node_stops.specs.PlayNodes.Showing.{NodesLeft, WritersStay}
 use Rattle.node_stops.specs.Stopping as node
 use Rattle.play_model.specs.declared.asks.ReadAsk.{ReadAsk}
-use Rattle.play_reads.specs.declared.reads.Reads.{Reads}
-use Rattle.play_reads.specs.Left.{ReadsLeft}
-use Rattle.play_readers.specs.Asks.{asks_of}
-use Rattle.play_reads.specs.Showing.{ReadsShow}
-use Rattle.play_reads.specs.Keeping.{ReadsStay, KeepsReads}
-use Rattle.play_reads.specs.Stopping as reads
+use Rattle.play_dues.specs.PlayReads.Reads.{Reads}
+use Rattle.play_dues.specs.PlayReads.Left.{ReadsLeft}
+use Rattle.play_dues.specs.PlayReaders.Asks.{asks_of}
+use Rattle.play_dues.specs.PlayReads.Showing.{ReadsShow}
+use Rattle.play_dues.specs.PlayReads.Keeping.{ReadsStay, KeepsReads}
+use Rattle.play_dues.specs.PlayReads.Stopping as reads
 use Rattle.play_model.specs.declared.recoveries.Recovery.{Recovery}
 use Rattle.play_model.specs.Recoveries.{stopped_at}
-use Rattle.play_recoveries.specs.declared.recoveries.Recoveries.{Recoveries}
-use Rattle.play_recoveries.specs.Keeping.{RecoveringEndsStay}
-use Rattle.play_recoveries.specs.Places.{recoveries_of}
-use Rattle.play_recoveries.specs.Showing.{RecoveriesShow}
-use Rattle.play_recoveries.specs.Stopping as recoveries
-use Rattle.world_orders.specs.Orders.{Ordered, purpose_of}
+use Rattle.play_dues.specs.PlayRecoveries.Recoveries.{Recoveries}
+use Rattle.play_dues.specs.PlayRecoveries.Keeping.{RecoveringEndsStay}
+use Rattle.play_dues.specs.PlayRecoveries.Places.{recoveries_of}
+use Rattle.play_dues.specs.PlayRecoveries.Showing.{RecoveriesShow}
+use Rattle.play_dues.specs.PlayRecoveries.Stopping as recoveries
+use Rattle.play_laws.specs.WorldOrders.Orders.{Ordered, purpose_of}
 use Rattle.play.specs.declared.faults.PlayFault.{PlayFault}
 use Rattle.play.specs.declared.player.Player.{Player}
 use Rattle.play.specs.Events.{IsKept, Keeps}

@@ -17,14 +17,14 @@ use Rattle.world.specs.Events.{run}
 use Rattle.play_model.specs.declared.dues.Due.{Due}
 use Rattle.play_model.specs.declared.dues.Due.TheVariants as due
 use Rattle.play_model.specs.Dues.{Queues, is_due, due_events, queues_after}
-use Rattle.play_clients.specs.declared.clients.Client.{Client}
-use Rattle.play_clients.specs.Events.{HearIsLawful, AcceptedIsQuiet}
-use Rattle.play_nodes.specs.declared.nodes.Nodes.{Nodes}
-use Rattle.play_nodes.specs.Beginning.{RequestsFit}
-use Rattle.play_nodes.specs.Events.{IsLawful, IsBusy, DrawerFailed}
-use Rattle.play_nodes.specs.Showing.{is_pipeline}
-use Rattle.play_readers.specs.Asks.{asks_of}
-use Rattle.play_recoveries.specs.Places.{recoveries_of}
+use Rattle.play_dues.specs.PlayClients.Client.{Client}
+use Rattle.play_dues.specs.PlayClients.Events.{HearIsLawful, AcceptedIsQuiet}
+use Rattle.node_stops.specs.PlayNodes.Nodes.{Nodes}
+use Rattle.node_stops.specs.PlayNodes.Beginning.{RequestsFit}
+use Rattle.node_stops.specs.PlayNodes.Events.{IsLawful, IsBusy, DrawerFailed}
+use Rattle.node_stops.specs.PlayNodes.Showing.{is_pipeline}
+use Rattle.play_dues.specs.PlayReaders.Asks.{asks_of}
+use Rattle.play_dues.specs.PlayRecoveries.Places.{recoveries_of}
 use Rattle.play.specs.declared.faults.PlayFault.{PlayFault}
 use Rattle.play.specs.declared.faults.PlayFault.TheVariants as fault
 use Rattle.play.specs.declared.player.Player.{Player}

@@ -1,15 +1,15 @@
 -- Why a play stops.
-use Rattle.client_events.specs.declared.faults.ClientFault.{ClientFault}
-use Rattle.client_events.specs.declared.faults.ClientFault.TheVariants as client_fault
+use Rattle.play_dues.specs.ClientEvents.ClientFault.{ClientFault}
+use Rattle.play_dues.specs.ClientEvents.ClientFault.TheVariants as client_fault
 use Rattle.hd_base.specs.declared.numbers.NodeId.{NodeId}
 use Rattle.node_starts.specs.declared.faults.StartFault.{StartFault}
 use Rattle.node_starts.specs.declared.faults.StartFault.TheVariants as start_fault
-use Rattle.play_nodes.specs.declared.faults.NodesFault.{NodesFault}
-use Rattle.play_reads.specs.declared.faults.ReadsFault.{ReadsFault}
-use Rattle.play_reads.specs.declared.faults.ReadsFault.TheVariants as reads_fault
-use Rattle.play_recoveries.specs.declared.faults.RecoveriesFault.{RecoveriesFault}
-use Rattle.play_recoveries.specs.declared.faults.RecoveriesFault.TheVariants as recoveries_fault
-use Rattle.play_nodes.specs.declared.faults.NodesFault.TheVariants as nodes_fault
+use Rattle.node_stops.specs.PlayNodes.NodesFault.{NodesFault}
+use Rattle.play_dues.specs.PlayReads.ReadsFault.{ReadsFault}
+use Rattle.play_dues.specs.PlayReads.ReadsFault.TheVariants as reads_fault
+use Rattle.play_dues.specs.PlayRecoveries.RecoveriesFault.{RecoveriesFault}
+use Rattle.play_dues.specs.PlayRecoveries.RecoveriesFault.TheVariants as recoveries_fault
+use Rattle.node_stops.specs.PlayNodes.NodesFault.TheVariants as nodes_fault
 use Rattle.play.specs.declared.faults.PlayFault.{PlayFault}
 use Rattle.play.specs.declared.faults.PlayFault.TheVariants as fault
 

@@ -1,16 +1,16 @@
 -- What a play takes of the world, and what its events leave of its reads and recoveries.
 use Rattle.hd_base.specs.declared.links.LinkIn as link_in
 use Rattle.hd_base.specs.declared.links.LinkOut as link_out
-use Rattle.world_laws.specs.Facts.{RunsEnd, RunsJoin}
-use Rattle.world_laws.specs.Placing.{AllPlaced, OnlyDialledCarry}
-use Rattle.world_laws.specs.Testing.{AllTested}
-use Rattle.world_orders.specs.Orders.{AllOrdered}
-use Rattle.world_orders.specs.Takes.{AllTakeInOrder}
-use Rattle.world_recoveries.specs.Recovering.{AllRecovering}
-use Rattle.world_requests.specs.Requests.{AreAmong}
-use Rattle.world_texts.specs.Texts.{AllWritten}
-use Rattle.reader_events.specs.Orders.{AllReadersTakeInOrder}
-use Rattle.recovery_events.specs.Orders.{RecoveriesComeInOrder, RecoveriesNameOneBlock}
+use Rattle.play_model.specs.WorldLaws.Facts.{RunsEnd, RunsJoin}
+use Rattle.play_model.specs.WorldLaws.Placing.{AllPlaced, OnlyDialledCarry}
+use Rattle.play_model.specs.WorldLaws.Testing.{AllTested}
+use Rattle.play_laws.specs.WorldOrders.Orders.{AllOrdered}
+use Rattle.play_laws.specs.WorldOrders.Takes.{AllTakeInOrder}
+use Rattle.play_laws.specs.WorldRecoveries.Recovering.{AllRecovering}
+use Rattle.node_stops.specs.WorldRequests.Requests.{AreAmong}
+use Rattle.play_laws.specs.WorldTexts.Texts.{AllWritten}
+use Rattle.play_dues.specs.ReaderEvents.Orders.{AllReadersTakeInOrder}
+use Rattle.play_dues.specs.RecoveryEvents.Orders.{RecoveriesComeInOrder, RecoveriesNameOneBlock}
 use Rattle.play_laws.specs.Early.{NothingEarly}
 use Rattle.play_laws.specs.Intakes.{OwnStepsKeepIntakes, HearingKeepsIntakes}
 use Rattle.play_laws.specs.Members.{MembersAre, TargetsAre}
@@ -19,15 +19,15 @@ use Rattle.play_laws.specs.Stamps.{StampsAreFew}
 use Rattle.play_laws.specs.Taking.{CommandsTaken, UnmadeAreFresh}
 use Rattle.play_laws.specs.Writers.{AllRest, WritersOpen}
 use Rattle.play_settling.specs.Settling.{ActOrAsk}
-use Rattle.play_clients.specs.Others.{OwnStepsKeep, HearingKeeps}
-use Rattle.play_nodes.specs.Frames.{DownKeeps, ReadyKeeps, MirrorKeeps}
-use Rattle.play_readers.specs.Frames.{AskingKeepsOthers, HearingKeepsOthers}
-use Rattle.play_primaries.specs.Frames as primaries
-use Rattle.play_reads.specs.Keeping.{ReadsStay, OwnStepsKeepReads, HearingKeepsReads, DownKeepsReads, ReadyKeepsReads, MirrorKeepsReads, CutsKeepReads}
-use Rattle.play_reads.specs.Keeping.{LeadingKeepsReads, AnswersKeepReads, AnsweringKeepsReads}
-use Rattle.play_recoveries.specs.Keeping.{RecoveriesStay, CutsKeepRecoveries}
-use Rattle.play_recoveries.specs.Others.{OwnStepsKeepRecoveries, HearingKeepsRecoveries, DownKeepsRecoveries, ReadyKeepsRecoveries, MirrorKeepsRecoveries}
-use Rattle.play_recoveries.specs.Others.{AskingKeepsRecoveries, ReadingKeepsRecoveries, ServingKeepsRecoveries, SendingKeepsRecoveries}
+use Rattle.play_dues.specs.PlayClients.Others.{OwnStepsKeep, HearingKeeps}
+use Rattle.node_stops.specs.PlayNodes.Frames.{DownKeeps, ReadyKeeps, MirrorKeeps}
+use Rattle.play_dues.specs.PlayReaders.Frames.{AskingKeepsOthers, HearingKeepsOthers}
+use Rattle.play_dues.specs.PlayPrimaries.Frames as primaries
+use Rattle.play_dues.specs.PlayReads.Keeping.{ReadsStay, OwnStepsKeepReads, HearingKeepsReads, DownKeepsReads, ReadyKeepsReads, MirrorKeepsReads, CutsKeepReads}
+use Rattle.play_dues.specs.PlayReads.Keeping.{LeadingKeepsReads, AnswersKeepReads, AnsweringKeepsReads}
+use Rattle.play_dues.specs.PlayRecoveries.Keeping.{RecoveriesStay, CutsKeepRecoveries}
+use Rattle.play_dues.specs.PlayRecoveries.Others.{OwnStepsKeepRecoveries, HearingKeepsRecoveries, DownKeepsRecoveries, ReadyKeepsRecoveries, MirrorKeepsRecoveries}
+use Rattle.play_dues.specs.PlayRecoveries.Others.{AskingKeepsRecoveries, ReadingKeepsRecoveries, ServingKeepsRecoveries, SendingKeepsRecoveries}
 
 -- Each holds after every list of events.
 pub record Laws : Type 0 where

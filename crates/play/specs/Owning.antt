@@ -10,15 +10,15 @@ use Rattle.world.specs.declared.events.Caller.TheVariants as caller
 use Rattle.world.specs.declared.events.Event.{Event}
 use Rattle.world.specs.declared.events.Event.TheVariants as event
 use Rattle.world.specs.Worlds.{World}
-use Rattle.world_orders.specs.Orders.{Ordered}
+use Rattle.play_laws.specs.WorldOrders.Orders.{Ordered}
 use Rattle.play_model.specs.declared.dues.Due.TheVariants as due
 use Rattle.play_model.specs.Dues.{Queues, is_due}
-use Rattle.play_clients.specs.declared.clients.Client.{Client}
-use Rattle.play_clients.specs.declared.clients.First.{First}
-use Rattle.play_clients.specs.declared.clients.Owned.{Owned}
-use Rattle.play_clients.specs.Events.{CanOwn, owned_events}
-use Rattle.play_nodes.specs.Frames.{DialledShows}
-use Rattle.play_nodes.specs.Places.{KeepsSizes}
+use Rattle.play_dues.specs.PlayClients.Client.{Client}
+use Rattle.play_dues.specs.PlayClients.First.{First}
+use Rattle.play_dues.specs.PlayClients.Owned.{Owned}
+use Rattle.play_dues.specs.PlayClients.Events.{CanOwn, owned_events}
+use Rattle.node_stops.specs.PlayNodes.Frames.{DialledShows}
+use Rattle.node_stops.specs.PlayNodes.Places.{KeepsSizes}
 use Rattle.play.specs.declared.faults.PlayFault.{PlayFault}
 use Rattle.play.specs.declared.faults.PlayFault.TheVariants as fault
 use Rattle.play.specs.declared.player.Player.{Player}

@@ -8,16 +8,16 @@ use Rattle.hd_base.specs.declared.roads.Roads as roads
 use Rattle.road_traffic.specs.Showing.{Net}
 use Rattle.world.specs.declared.events.Event.TheVariants as event
 use Rattle.world.specs.Worlds.{World}
-use Rattle.world_orders.specs.Orders.{purpose_of, reading}
+use Rattle.play_laws.specs.WorldOrders.Orders.{purpose_of, reading}
 use Rattle.play_model.specs.declared.dues.Due.TheVariants as due
 use Rattle.play_model.specs.Dues.{Queues, is_due}
-use Rattle.reader_events.specs.Asking.{CanAsk}
-use Rattle.play_readers.specs.declared.clients.ReadClient.{ReadClient}
-use Rattle.play_servers.specs.Events as servers
-use Rattle.play_servers.specs.Showing.{AsksFor}
-use Rattle.play_reads.specs.Hearing.{HearIsLawful}
-use Rattle.play_reads.specs.Owning.{OwnIsLawful}
-use Rattle.play_reads.specs.Serving.{ServesInOrder}
+use Rattle.play_dues.specs.ReaderEvents.Asking.{CanAsk}
+use Rattle.play_dues.specs.PlayReaders.ReadClient.{ReadClient}
+use Rattle.play_dues.specs.PlayServers.Events as servers
+use Rattle.play_dues.specs.PlayServers.Showing.{AsksFor}
+use Rattle.play_dues.specs.PlayReads.Hearing.{HearIsLawful}
+use Rattle.play_dues.specs.PlayReads.Owning.{OwnIsLawful}
+use Rattle.play_dues.specs.PlayReads.Serving.{ServesInOrder}
 use Rattle.play.specs.declared.faults.PlayFault.{PlayFault}
 use Rattle.play.specs.declared.player.Player.{Player}
 use Rattle.play.specs.Events.{PlayEnds}

@@ -8,17 +8,17 @@ use Rattle.hd_base.specs.declared.roads.Roads as roads
 use Rattle.road_traffic.specs.Showing.{Net}
 use Rattle.world.specs.declared.events.Event.TheVariants as event
 use Rattle.world.specs.Worlds.{World}
-use Rattle.world_orders.specs.Orders.{purpose_of, recovering}
+use Rattle.play_laws.specs.WorldOrders.Orders.{purpose_of, recovering}
 use Rattle.play_model.specs.declared.dues.Due.TheVariants as due
 use Rattle.play_model.specs.declared.recoveries.Recovery.{Recovery}
 use Rattle.play_model.specs.Dues.{Queues, is_due}
-use Rattle.play_primaries.specs.declared.clients.PrimaryClient.{PrimaryClient}
-use Rattle.play_primaries.specs.declared.deeds.Deed.{Deed}
-use Rattle.play_primaries.specs.Deeds.{deed_events}
-use Rattle.play_primaries.specs.Hearing.{HearIsLawful}
-use Rattle.play_servers.specs.Recoveries.{AsksFor, RecoverIsLawful}
-use Rattle.play_recoveries.specs.Owning.{OwnIsLawful}
-use Rattle.play_recoveries.specs.Serving.{ServesInOrder}
+use Rattle.play_dues.specs.PlayPrimaries.PrimaryClient.{PrimaryClient}
+use Rattle.play_dues.specs.PlayPrimaries.Deed.{Deed}
+use Rattle.play_dues.specs.PlayPrimaries.Deeds.{deed_events}
+use Rattle.play_dues.specs.PlayPrimaries.Hearing.{HearIsLawful}
+use Rattle.play_dues.specs.PlayServers.Recoveries.{AsksFor, RecoverIsLawful}
+use Rattle.play_dues.specs.PlayRecoveries.Owning.{OwnIsLawful}
+use Rattle.play_dues.specs.PlayRecoveries.Serving.{ServesInOrder}
 use Rattle.play.specs.declared.faults.PlayFault.{PlayFault}
 use Rattle.play.specs.declared.faults.PlayFault.TheVariants as fault
 use Rattle.play.specs.declared.player.Player.{Player}

@@ -2,7 +2,7 @@
 use Rattle.std.specs.Prelude.{◌≡◌, ◌<◌, ℕ, Bool, true, false, length, Option, Some, None}
 use Rattle.hd_base.specs.declared.numbers.NodeId.{NodeId}
 use Rattle.world.specs.Worlds.{put}
-use Rattle.play_nodes.specs.Showing.{runs_in}
+use Rattle.node_stops.specs.PlayNodes.Showing.{runs_in}
 use Rattle.play.specs.declared.player.Player.{Player}
 
 -- there is a node here, and it runs

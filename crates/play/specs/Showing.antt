@@ -6,11 +6,11 @@ use Rattle.hd_base.specs.declared.roads.Roads as roads
 use Rattle.road_traffic.specs.Showing.{Net}
 use Rattle.world.specs.Worlds.{World}
 use Rattle.play_model.specs.Dues.{Queues}
-use Rattle.play_clients.specs.declared.clients.Client.{Client}
-use Rattle.play_clients.specs.Clients.{ClientShows}
-use Rattle.play_nodes.specs.Showing.{NodesStand, TellsRunning}
-use Rattle.play_reads.specs.Showing.{ReadsShow}
-use Rattle.play_recoveries.specs.Showing.{RecoveriesShow}
+use Rattle.play_dues.specs.PlayClients.Client.{Client}
+use Rattle.play_dues.specs.PlayClients.Clients.{ClientShows}
+use Rattle.node_stops.specs.PlayNodes.Showing.{NodesStand, TellsRunning}
+use Rattle.play_dues.specs.PlayReads.Showing.{ReadsShow}
+use Rattle.play_dues.specs.PlayRecoveries.Showing.{RecoveriesShow}
 use Rattle.play.specs.declared.player.Player.{Player}
 
 -- The client of a block shows the world, and has the commands that its writer hasn't taken.

@@ -12,9 +12,9 @@ use Rattle.writer_core.specs.Commands.{is_unmade}
 use Rattle.world.specs.declared.events.Event.{Event}
 use Rattle.world.specs.Worlds.{World, start}
 use Rattle.world.specs.Events.{run}
-use Rattle.world_breaks.specs.Breaks.{NoneFails}
-use Rattle.world_requests.specs.Requests.{IsAmong, AllAmong}
-use Rattle.world_texts.specs.Texts.{AllFit, CanBeAsked}
+use Rattle.node_starts.specs.WorldBreaks.Breaks.{NoneFails}
+use Rattle.node_stops.specs.WorldRequests.Requests.{IsAmong, AllAmong}
+use Rattle.play_laws.specs.WorldTexts.Texts.{AllFit, CanBeAsked}
 use Rattle.play_model.specs.declared.asks.ReadAsk.{ReadAsk}
 use Rattle.play_model.specs.declared.recoveries.Recovery.{Recovery}
 use Rattle.play_model.specs.declared.dues.Due.{Due}
@@ -24,12 +24,12 @@ use Rattle.play_model.specs.Dues.{Queues, is_due, due_events, queues_after}
 use Rattle.play_laws.specs.Commands.{CommandsFit, given_with}
 use Rattle.play_laws.specs.Intakes.{intake_of}
 use Rattle.play_laws.specs.Members.{IsNode, AllName}
-use Rattle.play_clients.specs.declared.clients.Client.{Client}
+use Rattle.play_dues.specs.PlayClients.Client.{Client}
 use Rattle.play_dues.specs.Showing.{HasClient}
-use Rattle.play_nodes.specs.Showing.{is_pipeline}
-use Rattle.play_readers.specs.Asks.{asks_of}
-use Rattle.play_reads.specs.Places.{HasAsk}
-use Rattle.play_recoveries.specs.Places.{recoveries_of, HasRecovery}
+use Rattle.node_stops.specs.PlayNodes.Showing.{is_pipeline}
+use Rattle.play_dues.specs.PlayReaders.Asks.{asks_of}
+use Rattle.play_dues.specs.PlayReads.Places.{HasAsk}
+use Rattle.play_dues.specs.PlayRecoveries.Places.{recoveries_of, HasRecovery}
 use Rattle.play.specs.declared.faults.PlayFault.{PlayFault}
 use Rattle.play.specs.declared.player.Player.{Player}
 use Rattle.play.specs.Showing.{PlayerShows}

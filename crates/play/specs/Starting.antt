@@ -10,8 +10,8 @@ use Rattle.hd_base.specs.declared.shelves.Shelf as shelves
 use Rattle.world.specs.declared.events.Event.TheVariants as event
 use Rattle.play_model.specs.Dues.{Queues}
 use Rattle.node_starts.specs.Books.{NodeTells}
-use Rattle.play_readers.specs.Asks.{asks_of}
-use Rattle.play_recoveries.specs.Places.{recoveries_of}
+use Rattle.play_dues.specs.PlayReaders.Asks.{asks_of}
+use Rattle.play_dues.specs.PlayRecoveries.Places.{recoveries_of}
 use Rattle.play.specs.declared.faults.PlayFault.{PlayFault}
 use Rattle.play.specs.declared.faults.PlayFault.TheVariants as fault
 use Rattle.play.specs.declared.player.Player.{Player}

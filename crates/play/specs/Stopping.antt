@@ -7,8 +7,8 @@ use Rattle.hd_base.specs.declared.roads.Roads as roads
 use Rattle.world.specs.declared.events.Event.TheVariants as event
 use Rattle.play_model.specs.Dues.{Queues}
 use Rattle.play_model.specs.Recoveries.{stopped_at}
-use Rattle.play_readers.specs.Asks.{asks_of}
-use Rattle.play_recoveries.specs.Places.{recoveries_of}
+use Rattle.play_dues.specs.PlayReaders.Asks.{asks_of}
+use Rattle.play_dues.specs.PlayRecoveries.Places.{recoveries_of}
 use Rattle.play.specs.declared.faults.PlayFault.{PlayFault}
 use Rattle.play.specs.declared.faults.PlayFault.TheVariants as fault
 use Rattle.play.specs.declared.player.Player.{Player}

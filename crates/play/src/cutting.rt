@@ -1,8 +1,8 @@
 //! A connection of a play is cut.
 
 ghost use Rattle.std.specs.Prelude.{◌<◌, length};
-ghost use Rattle.member_events.specs.Roads.{RoadsPass};
-ghost use Rattle.play_nodes.specs.Places.{KeepsSizes};
+ghost use Rattle.node_stops.specs.MemberEvents.Roads.{RoadsPass};
+ghost use Rattle.node_stops.specs.PlayNodes.Places.{KeepsSizes};
 ghost use Rattle.play.specs.Showing.{PlayerStands};
 ghost use Rattle.play.specs.Cutting.{CutShows};
 
@@ -11,10 +11,9 @@ use crate::laws::{pipelines_leave_others, worlds_are_lawful};
 use crate::player::Player;
 use fault_ports::CutRoads;
 use hd_base::{ConnId, Files, LinkIn, LinkOut};
-use play_clients::clients_stay;
-use play_nodes::nodes_stay;
+use node_stops::{cuts_are_losses, cuts_show, ends_stay_in_cuts, nodes_stay};
+use play_dues::clients_stay;
 use world::{Direction, Event};
-use world_cuts::{cuts_are_losses, cuts_show, ends_stay_in_cuts};
 
 impl<F: Files, I: LinkIn, O: LinkOut> Player<F, I, O> {
     /// A connection ends: of the messages on their way so many still arrive, down and up. What is sent on it later is

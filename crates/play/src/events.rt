@@ -1,9 +1,9 @@
 //! The events of a play.
 
 ghost use Rattle.std.specs.Prelude.{◌≡◌, ◌<◌, length};
-ghost use Rattle.member_events.specs.Roads.{RoadsPass};
-ghost use Rattle.play_nodes.specs.Places.{KeepsSizes};
-ghost use Rattle.play_nodes.specs.Showing.{Stand};
+ghost use Rattle.node_stops.specs.MemberEvents.Roads.{RoadsPass};
+ghost use Rattle.node_stops.specs.PlayNodes.Places.{KeepsSizes};
+ghost use Rattle.node_stops.specs.PlayNodes.Showing.{Stand};
 ghost use Rattle.play.specs.Showing.{PlayerStands};
 ghost use Rattle.play.specs.Events.{Keeps, Begins, BeginShows, ReadyShows, DownShows, MirrorShows, HeardShows};
 
@@ -11,9 +11,9 @@ use crate::faults::{PlayFault, of_client, of_nodes};
 use crate::laws::pipelines_leave_others;
 use crate::player::Player;
 use hd_base::{ConnId, Files, LinkIn, LinkOut, NodeId, Roads};
-use play_clients::{clients_stay, hearing_keeps_others};
+use node_stops::{nodes_ends_stay, nodes_keep_writers, nodes_stay, writers_keep_nodes};
+use play_dues::{clients_stay, hearing_keeps_others};
 use play_laws::running_stays;
-use play_nodes::{nodes_ends_stay, nodes_keep_writers, nodes_stay, writers_keep_nodes};
 use std::alloc::Global;
 use world::Event;
 

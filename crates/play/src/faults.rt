@@ -3,12 +3,10 @@
 ghost use Rattle.std.specs.Prelude.{◌≡◌};
 ghost use Rattle.play.specs.Faults.{of_nodes, of_client, of_reads, of_recoveries, of_start};
 
-use client_events::ClientFault;
 use hd_base::NodeId;
 use node_starts::StartFault;
-use play_nodes::NodesFault;
-use play_reads::ReadsFault;
-use play_recoveries::RecoveriesFault;
+use node_stops::NodesFault;
+use play_dues::{ClientFault, ReadsFault, RecoveriesFault};
 use thiserror::Error;
 
 /// Why a play stops.

@@ -1,7 +1,7 @@
 //! What is due in a play happens.
 
-ghost use Rattle.member_events.specs.Roads.{RoadsPass};
-ghost use Rattle.play_nodes.specs.Places.{KeepsSizes};
+ghost use Rattle.node_stops.specs.MemberEvents.Roads.{RoadsPass};
+ghost use Rattle.node_stops.specs.PlayNodes.Places.{KeepsSizes};
 ghost use Rattle.play.specs.Showing.{PlayerStands};
 ghost use Rattle.play.specs.Standing.{ElsewhereShows, HappenShows};
 
@@ -9,9 +9,10 @@ use crate::faults::PlayFault;
 use crate::laws::worlds_are_lawful;
 use crate::player::Player;
 use hd_base::{BlockId, ConnId, Files, LinkIn, LinkOut, Roads};
-use play_dues::{client_of, primary_client_of, read_client_of, writer_of};
+use play_dues::{
+    client_of, none_is_ready, primary_client_of, primary_of, read_client_of, writer_of,
+};
 use play_model::{Due, ReadAsk, Recovery};
-use play_recoveries::{none_is_ready, primary_of};
 use std::alloc::Global;
 
 impl<F: Files, I: LinkIn, O: LinkOut> Player<F, I, O> {

@@ -3,32 +3,24 @@
 ghost use Rattle.play.specs.Laws.{Laws, PipelinesLeave, ReadsLeave, RecoveriesLeave};
 
 use hd_base::{LinkIn, LinkOut};
-use play_clients::{hearing_keeps_others, own_steps_keep_others};
+use node_stops::{nodes_keep_writers, requests_are_among};
+use play_dues::{
+    cuts_keep_reads, cuts_keep_recoveries, hearing_keeps_others, members_keep_reads,
+    members_keep_recoveries, own_steps_keep_others, primaries_keep_nodes, primaries_keep_others,
+    primaries_keep_reads, readers_keep_others, readers_keep_recoveries, readers_take_in_order,
+    reads_stay, recoveries_come_in_order, recoveries_name_one_block, recoveries_stay,
+    writers_keep_reads, writers_keep_recoveries,
+};
 use play_laws::{
-    commands_are_taken, intakes_stay, members_are_nodes, nothing_comes_early, only_nodes_run,
-    running_stays, stamps_are_few, targets_are_nodes, unmade_writers_are_fresh, writers_are_open,
-    writers_rest,
+    commands_are_taken, intakes_stay, members_are_nodes, messages_are_taken_in_order,
+    messages_are_written, messages_come_in_order, nothing_comes_early, only_nodes_run,
+    recoveries_fit, running_stays, stamps_are_few, targets_are_nodes, unmade_writers_are_fresh,
+    writers_are_open, writers_rest,
 };
-use play_nodes::nodes_keep_writers;
-use play_primaries::{primaries_keep_nodes, primaries_keep_others};
-use play_readers::readers_keep_others;
-use play_reads::{
-    cuts_keep_reads, members_keep_reads, primaries_keep_reads, reads_stay, writers_keep_reads,
-};
-use play_recoveries::{
-    cuts_keep_recoveries, members_keep_recoveries, readers_keep_recoveries, recoveries_stay,
-    writers_keep_recoveries,
-};
-use play_settling::writers_act_or_ask;
-use reader_events::readers_take_in_order;
-use recovery_events::{recoveries_come_in_order, recoveries_name_one_block};
-use world_laws::{
+use play_model::{
     enabled_events_are_tested, indices_are_in_range, only_dialled_connections_carry, runs_join,
 };
-use world_orders::{messages_are_taken_in_order, messages_come_in_order};
-use world_recoveries::recoveries_fit;
-use world_requests::requests_are_among;
-use world_texts::messages_are_written;
+use play_settling::writers_act_or_ask;
 
 /// What holds of the world after every list of events.
 pub fn worlds_are_lawful()

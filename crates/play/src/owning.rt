@@ -1,8 +1,8 @@
 //! The own steps of the writers of a play.
 
 ghost use Rattle.std.specs.Prelude.{◌<◌, length};
-ghost use Rattle.member_events.specs.Roads.{RoadsPass};
-ghost use Rattle.play_nodes.specs.Places.{KeepsSizes};
+ghost use Rattle.node_stops.specs.MemberEvents.Roads.{RoadsPass};
+ghost use Rattle.node_stops.specs.PlayNodes.Places.{KeepsSizes};
 ghost use Rattle.play.specs.Showing.{PlayerStands};
 ghost use Rattle.play.specs.Owning.{IsDialled, IsAsked, IsOwned, OwnShows};
 
@@ -10,8 +10,8 @@ use crate::faults::{PlayFault, of_client, of_nodes};
 use crate::laws::pipelines_leave_others;
 use crate::player::Player;
 use hd_base::{BlockId, ConnId, Files, LinkIn, LinkOut, Roads};
-use play_clients::{First, Owned, clients_stay, own_steps_keep_others};
-use play_nodes::{nodes_ends_stay, nodes_stay, writers_keep_nodes};
+use node_stops::{nodes_ends_stay, nodes_stay, writers_keep_nodes};
+use play_dues::{First, Owned, clients_stay, own_steps_keep_others};
 use std::alloc::Global;
 use world::{Caller, Event, OwnStep};
 

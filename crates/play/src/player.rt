@@ -1,15 +1,13 @@
 //! The player of a script.
 
 ghost use Rattle.std.specs.Prelude.{◌≡◌};
-ghost use Rattle.play_nodes.specs.Showing.{runs_in};
+ghost use Rattle.node_stops.specs.PlayNodes.Showing.{runs_in};
 ghost use Rattle.play.specs.Running.{is_running, IsStopped, IsStarted};
 
 use hd_base::{Files, NodeId};
 use name_core::OfficeBook;
-use play_clients::Client;
-use play_nodes::Nodes;
-use play_reads::Reads;
-use play_recoveries::Recoveries;
+use node_stops::Nodes;
+use play_dues::{Client, Reads, Recoveries};
 use world::Event;
 
 /// The player of a script: the nodes, the reads, the recoveries, the clients and the office, which nodes run, and the events

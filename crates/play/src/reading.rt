@@ -1,9 +1,9 @@
 //! The events of readers, and of the lower ends of connections that they dialled.
 
 ghost use Rattle.std.specs.Prelude.{◌<◌, length, true};
-ghost use Rattle.member_events.specs.Roads.{RoadsPass};
+ghost use Rattle.node_stops.specs.MemberEvents.Roads.{RoadsPass};
 ghost use Rattle.play_model.specs.Asks.{asking_node};
-ghost use Rattle.play_nodes.specs.Places.{KeepsSizes};
+ghost use Rattle.node_stops.specs.PlayNodes.Places.{KeepsSizes};
 ghost use Rattle.play.specs.Events.{Keeps};
 ghost use Rattle.play.specs.Reading.{AskShows, ReaderShows, TakeShows, SendShows};
 ghost use Rattle.play.specs.Showing.{PlayerStands};
@@ -12,7 +12,7 @@ use crate::faults::{PlayFault, of_reads};
 use crate::laws::{reads_leave_others, worlds_are_lawful};
 use crate::player::Player;
 use hd_base::{ConnId, Files, LinkIn, LinkOut, Roads};
-use play_clients::clients_stay;
+use play_dues::clients_stay;
 use play_model::ReadAsk;
 use std::alloc::Global;
 use world::{Event, OwnStep};

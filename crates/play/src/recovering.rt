@@ -1,9 +1,9 @@
 //! The events of primaries, and of the lower ends of connections that they dialled.
 
 ghost use Rattle.std.specs.Prelude.{◌≡◌, ◌<◌, length, IfOk};
-ghost use Rattle.member_events.specs.Roads.{RoadsPass};
+ghost use Rattle.node_stops.specs.MemberEvents.Roads.{RoadsPass};
 ghost use Rattle.play_model.specs.Recoveries.{all_answered};
-ghost use Rattle.play_nodes.specs.Places.{KeepsSizes};
+ghost use Rattle.node_stops.specs.PlayNodes.Places.{KeepsSizes};
 ghost use Rattle.play.specs.Recovering.{KeepsDeed, LeadShows, PrimaryShows, AnswerShows};
 ghost use Rattle.play.specs.Showing.{PlayerStands};
 
@@ -11,9 +11,8 @@ use crate::faults::{PlayFault, of_recoveries};
 use crate::laws::{recoveries_leave_others, worlds_are_lawful};
 use crate::player::Player;
 use hd_base::{ConnId, Files, LinkIn, LinkOut, Members, Roads};
-use play_clients::clients_stay;
+use play_dues::{Deed, clients_stay};
 use play_model::Recovery;
-use play_primaries::Deed;
 use std::alloc::{AllocError, Global};
 use world::{AnswerList, Caller, Event, OwnStep};
 

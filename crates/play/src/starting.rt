@@ -2,9 +2,9 @@
 
 ghost use Rattle.std.specs.Prelude.{◌<◌, ◌≤◌, OnOk, OnErr, IfErr};
 ghost use Rattle.hd_base.specs.declared.roads.TheConstants.{MAX_NODES};
-ghost use Rattle.member_events.specs.Roads.{RoadsPass};
-ghost use Rattle.node_opening.specs.Closing.{AreLentOut};
-ghost use Rattle.node_opening.specs.Shelves.{LendsNoMore};
+ghost use Rattle.node_stops.specs.MemberEvents.Roads.{RoadsPass};
+ghost use Rattle.node_starts.specs.NodeOpening.Closing.{AreLentOut};
+ghost use Rattle.node_starts.specs.NodeOpening.Shelves.{LendsNoMore};
 ghost use Rattle.node_starts.specs.Books.{HasAllBooks, KeepsOthers, StartsOver, StopsOver};
 ghost use Rattle.play.specs.Starting.{StartShows, IsStartCause};
 
@@ -12,13 +12,10 @@ use crate::faults::{PlayFault, of_start};
 use crate::laws::worlds_are_lawful;
 use crate::player::Player;
 use hd_base::{Files, LinkIn, LinkOut, NodeId, Roads, Shelf};
-use node_starts::{dials_are_of_lives_so_far, start_node};
-use play_clients::clients_stay;
-use play_reads::starts_keep_reads;
-use play_recoveries::starts_keep_recoveries;
+use node_starts::{dials_are_of_lives_so_far, replicas_are_unbroken_without_faults, start_node};
+use play_dues::{clients_stay, starts_keep_reads, starts_keep_recoveries};
 use std::alloc::Global;
 use world::{Event, FoundList};
-use world_breaks::replicas_are_unbroken_without_faults;
 
 impl<F: Files, I: LinkIn, O: LinkOut> Player<F, I, O> {
     /// A node that doesn't run starts again between two events: its shelf is scanned, and it has the books of what is

@@ -2,8 +2,8 @@
 
 ghost use Rattle.std.specs.Prelude.{◌<◌};
 ghost use Rattle.hd_base.specs.declared.roads.TheConstants.{MAX_NODES};
-ghost use Rattle.member_events.specs.Roads.{RoadsPass};
-ghost use Rattle.play_nodes.specs.Places.{KeepsSizes};
+ghost use Rattle.node_stops.specs.MemberEvents.Roads.{RoadsPass};
+ghost use Rattle.node_stops.specs.PlayNodes.Places.{KeepsSizes};
 ghost use Rattle.play.specs.Showing.{PlayerStands};
 ghost use Rattle.play.specs.Stopping.{StopShows};
 
@@ -12,11 +12,10 @@ use crate::laws::{recoveries_leave_others, worlds_are_lawful};
 use crate::player::Player;
 use fault_ports::CutRoads;
 use hd_base::{Files, LinkIn, LinkOut, NodeId};
-use node_stops::stop_node;
-use play_clients::clients_stay;
+use node_stops::{dials_have_origins, stop_node};
+use play_dues::clients_stay;
 use std::alloc::Global;
 use world::Event;
-use world_stops::dials_have_origins;
 
 impl<F: Files, I: LinkIn, O: LinkOut> Player<F, I, O> {
     /// A node that runs stops between two events: nothing further arrives on its connections, nobody listens on its port

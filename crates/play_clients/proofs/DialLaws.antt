@@ -14,7 +14,7 @@ use Rattle.world.specs.Worlds.{World, Dial, Change, apply}
 use Rattle.world.specs.Clients.{is_empty, ruled, is_formed, command_bytes, did, dialled_change, dialling, rest_in, takes_step, takes_command, writer_step, own_writer}
 use Rattle.world.specs.Primaries.{writer_asks, writer_asks_office}
 use Rattle.world.specs.Events.{changed, outcome, after_event, happens}
-use Rattle.world_laws.proofs.FactTables.{when-each}
+use Rattle.play_model.proofs.WorldLaws.FactTables.{when-each}
 use Rattle.writer_core.specs.declared.actions.Action.{Action}
 use Rattle.writer_core.specs.declared.actions.Action.TheVariants as action
 use Rattle.writer_core.specs.declared.phases.Phase.{Phase}
@@ -26,7 +26,7 @@ use Rattle.writer_core.specs.declared.phases.Waiting.{Waiting}
 use Rattle.writer_core.specs.declared.records.WriterRecord.{WriterRecord}
 use Rattle.writer_core.specs.Phases.{remedy_after, without}
 use Rattle.writer_core.specs.Transitions.{Step, given, own_step, dial_step, open_step, completed_step, granted, dialled, dialled_in, dropped, fail_named}
-use Rattle.member_events.proofs.WorldLaws.{at_put}
+use Rattle.client_events.proofs.MemberEvents.WorldLaws.{at_put}
 use Rattle.client_events.specs.Events.{own_event, asked_world}
 use Rattle.client_events.specs.SettingUp.{is_requested}
 

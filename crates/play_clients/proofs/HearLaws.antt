@@ -8,9 +8,9 @@ use Rattle.hd_base.specs.declared.links.LinkIn as link_in
 use Rattle.hd_base.specs.declared.links.LinkOut as link_out
 use Rattle.hd_base.specs.declared.roads.Roads as roads
 use Rattle.name_core.specs.declared.desks.Desk as desks
-use Rattle.pipe_recovery.specs.declared.links.Link.{Link}
-use Rattle.pipe_recovery.specs.declared.rebuilding.Rebuild.{Rebuild}
-use Rattle.pipe_recovery.specs.Steps.{fits_in, is_stamped}
+use Rattle.client_events.specs.PipeRecovery.Link.{Link}
+use Rattle.client_events.specs.PipeRecovery.Rebuild.{Rebuild}
+use Rattle.client_events.specs.PipeRecovery.Steps.{fits_in, is_stamped}
 use Rattle.road_traffic.specs.Showing.{Net}
 use Rattle.world.specs.declared.events.Event.TheVariants as event
 use Rattle.world.specs.Parts as parts
@@ -19,21 +19,21 @@ use Rattle.world.specs.Worlds.{World, apply}
 use Rattle.world.specs.Connections.{Next, message, the_end, next_up, up_taken, is_conn}
 use Rattle.world.specs.Events.{happens}
 use Rattle.world.specs.Enabled.{takes_above}
-use Rattle.world_laws.proofs.FactTables.{and-left, and-right}
-use Rattle.world_nets.specs.Drawn.{ComesUp, HearsPipe, hears_as}
-use Rattle.world_nets.proofs.DrawnLemmas.{up-makes}
+use Rattle.play_model.proofs.WorldLaws.FactTables.{and-left, and-right}
+use Rattle.client_events.specs.WorldNets.Drawn.{ComesUp, HearsPipe, hears_as}
+use Rattle.client_events.proofs.WorldNets.DrawnLemmas.{up-makes}
 use Rattle.world_orders.specs.Orders as orders
 use Rattle.world_orders.specs.Orders.{Ordered, IsWriterConn, HasTaken, comes_up, pipeline, is_requested}
 use Rattle.world_orders.specs.Takes.{TakesInOrder}
 use Rattle.world_orders.proofs.AllOrdered.{next-found}
-use Rattle.world_texts.specs.Texts.{Written, SpellsText}
+use Rattle.client_events.specs.WorldTexts.Texts.{Written, SpellsText}
 use Rattle.writer_core.specs.declared.phases.Phase.{Phase}
 use Rattle.writer_core.specs.declared.phases.Phase.TheVariants as phase
 use Rattle.writer_core.specs.declared.records.WriterRecord.{WriterRecord}
 use Rattle.writer_core.specs.Transitions.{is_connected}
 use Rattle.play_model.specs.declared.dues.Due.TheVariants as due
 use Rattle.play_model.specs.Dues.{Queues, is_due, is_open_above}
-use Rattle.member_events.proofs.WorldLaws.{happened}
+use Rattle.client_events.proofs.MemberEvents.WorldLaws.{happened}
 use Rattle.client_events.specs.declared.faults.ClientFault.{ClientFault}
 use Rattle.client_events.specs.declared.faults.ClientFault.TheVariants as fault
 use Rattle.client_events.specs.declared.pipes.Pipe.{Pipe}

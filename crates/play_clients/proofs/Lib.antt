@@ -7,3 +7,6 @@ pub mod TakeLaws
 pub mod OwnShowing
 pub mod StayLaws
 pub mod OtherLaws
+pub mod ClientEvents
+pub mod MemberEvents
+pub mod WorldOrders

@@ -16,9 +16,9 @@ use Rattle.world.specs.Connections.{Next, next_up, up_taken, is_conn}
 use Rattle.world.specs.Clients.{is_empty, ruled, is_formed, command_bytes, takes_step, did, did_step, dialling, dialled_change, rest_in, takes_step, takes_given, takes_command, writer_step, own_writer, writer_up, writer_hears, writer_change}
 use Rattle.world.specs.Primaries.{writer_asks, writer_asks_office}
 use Rattle.world.specs.Events.{changed, upper_up, up_as, up_event, outcome, after_event, happens, run}
-use Rattle.world_laws.proofs.FactTables.{when-each}
-use Rattle.world_laws.proofs.StampGivens.{put-there}
-use Rattle.world_nets.proofs.StepLemmas.{changed-over, taken-over}
+use Rattle.play_model.proofs.WorldLaws.FactTables.{when-each}
+use Rattle.play_model.proofs.WorldLaws.StampGivens.{put-there}
+use Rattle.client_events.proofs.WorldNets.StepLemmas.{changed-over, taken-over}
 use Rattle.writer_core.specs.declared.actions.Action.{Action}
 use Rattle.writer_core.specs.declared.actions.Action.TheVariants as action
 use Rattle.writer_core.specs.declared.phases.Phase.{Phase}

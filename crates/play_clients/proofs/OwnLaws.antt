@@ -10,17 +10,17 @@ use Rattle.hd_base.specs.declared.links.LinkIn as link_in
 use Rattle.hd_base.specs.declared.links.LinkOut as link_out
 use Rattle.hd_base.specs.declared.roads.Roads as roads
 use Rattle.hd_base.specs.declared.roads.TheConstants.{FIRST_PORT}
-use Rattle.member_core.specs.declared.requests.TheConstants.{MAX_PORT}
+use Rattle.world.specs.MemberCore.TheConstants.{MAX_PORT}
 use Rattle.name_core.specs.declared.desks.Desk as desks
-use Rattle.pipe_recovery.specs.declared.rebuilding.Rebuild.{Rebuild}
-use Rattle.pipe_recovery.specs.Steps.{fits_in, fits_accepted, is_stamped}
+use Rattle.client_events.specs.PipeRecovery.Rebuild.{Rebuild}
+use Rattle.client_events.specs.PipeRecovery.Steps.{fits_in, fits_accepted, is_stamped}
 use Rattle.road_traffic.specs.Showing.{Net, EndIs}
 use Rattle.world.specs.declared.events.TakenCommand.{TakenCommand}
 use Rattle.world.specs.Parts as parts
 use Rattle.world.specs.Parts.{by_writer, idle}
 use Rattle.world.specs.Worlds.{World}
 use Rattle.world.specs.Events.{happens}
-use Rattle.world_nets.specs.Nets.{IsEndOf, held_by}
+use Rattle.client_events.specs.WorldNets.Nets.{IsEndOf, held_by}
 use Rattle.writer_core.specs.declared.actions.Action.{Action}
 use Rattle.writer_core.specs.declared.commands.Command.{Command}
 use Rattle.writer_core.specs.declared.phases.Phase.{Phase}
@@ -32,7 +32,7 @@ use Rattle.writer_core.specs.declared.records.WriterRecord.{WriterRecord}
 use Rattle.writer_core.specs.Transitions.{has_command_due, is_connected, own_step, step_in, is_action, take_first, free_step_as}
 use Rattle.play_model.specs.declared.dues.Due.TheVariants as due
 use Rattle.play_model.specs.Dues.{Queues, queues_after, own_events, queue_left, asking, acting}
-use Rattle.member_events.proofs.WorldLaws.{at_put}
+use Rattle.client_events.proofs.MemberEvents.WorldLaws.{at_put}
 use Rattle.client_events.specs.declared.acting.Acted.{Acted}
 use Rattle.client_events.specs.declared.acting.Said.{Said}
 use Rattle.client_events.specs.declared.faults.ClientFault.{ClientFault}

@@ -2,7 +2,7 @@
 use Rattle.std.proofs.Common.{ℕ, Option, Some, None, sym, ap, ◌∙◌, subst}
 use Rattle.hd_base.specs.declared.links.LinkIn as link_in
 use Rattle.hd_base.specs.declared.links.LinkOut as link_out
-use Rattle.pipe_recovery.specs.declared.links.Link.{Link}
+use Rattle.client_events.specs.PipeRecovery.Link.{Link}
 use Rattle.road_traffic.specs.Showing.{Net}
 use Rattle.world.specs.Parts.{Writing}
 use Rattle.world.specs.Worlds.{World}

@@ -9,7 +9,7 @@ use Rattle.hd_base.specs.declared.links.LinkIn as link_in
 use Rattle.hd_base.specs.declared.links.LinkOut as link_out
 use Rattle.hd_base.specs.declared.roads.Roads as roads
 use Rattle.name_core.specs.declared.desks.Desk as desks
-use Rattle.pipe_recovery.specs.Steps.{fits_in, fits_accepted, is_stamped}
+use Rattle.client_events.specs.PipeRecovery.Steps.{fits_in, fits_accepted, is_stamped}
 use Rattle.road_traffic.specs.Showing.{Net}
 use Rattle.world.specs.declared.events.TakenCommand.{TakenCommand}
 use Rattle.world.specs.Parts.{Told}
@@ -17,7 +17,7 @@ use Rattle.world.specs.Worlds.{World, Change, apply}
 use Rattle.world.specs.Events.{happens, is_enabled, outcome}
 use Rattle.world.specs.Enabled.{is_deed}
 use Rattle.world.specs.Clients.{is_formed, ruled, is_empty, did, takes_given, takes_command, writer_step, own_writer}
-use Rattle.world_laws.proofs.FactTables.{and-right}
+use Rattle.play_model.proofs.WorldLaws.FactTables.{and-right}
 use Rattle.world_orders.specs.Orders.{is_requested}
 use Rattle.writer_core.specs.declared.actions.Action.{Action}
 use Rattle.writer_core.specs.declared.actions.Action.TheVariants as action

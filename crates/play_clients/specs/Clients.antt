@@ -11,7 +11,7 @@ use Rattle.world.specs.Parts as parts
 use Rattle.world.specs.Worlds.{World}
 use Rattle.writer_core.specs.declared.records.WriterRecord.{WriterRecord}
 use Rattle.writer_core.specs.Transitions.{fresh, has_step}
-use Rattle.member_events.specs.Showing.{ShowsWorld}
+use Rattle.client_events.specs.MemberEvents.Showing.{ShowsWorld}
 use Rattle.client_events.specs.declared.acting.Said.{Said}
 use Rattle.client_events.specs.declared.pipes.Pipe.TheVariants as pipe
 use Rattle.client_events.specs.Showing.{PipeShows, PipeFits, OthersStay}

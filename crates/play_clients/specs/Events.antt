@@ -9,7 +9,7 @@ use Rattle.hd_base.specs.declared.links.LinkIn as link_in
 use Rattle.hd_base.specs.declared.links.LinkOut as link_out
 use Rattle.hd_base.specs.declared.roads.Roads as roads
 use Rattle.hd_base.specs.declared.roads.TheConstants.{FIRST_PORT}
-use Rattle.member_core.specs.declared.requests.TheConstants.{MAX_PORT}
+use Rattle.world.specs.MemberCore.TheConstants.{MAX_PORT}
 use Rattle.name_core.specs.declared.desks.Desk as desks
 use Rattle.road_traffic.specs.Showing.{Net}
 use Rattle.world.specs.declared.events.Caller.TheVariants as caller
@@ -20,10 +20,10 @@ use Rattle.world.specs.Parts.{Message, by_writer, idle}
 use Rattle.world.specs.Worlds.{World}
 use Rattle.world.specs.Connections.{message, next_up}
 use Rattle.world.specs.Events.{happens, is_enabled, run}
-use Rattle.world_nets.specs.Nets.{IsEndOf, is_over}
+use Rattle.client_events.specs.WorldNets.Nets.{IsEndOf, is_over}
 use Rattle.world_orders.specs.Orders.{Ordered}
 use Rattle.world_orders.specs.Takes.{TakesInOrder}
-use Rattle.world_texts.specs.Texts.{Written}
+use Rattle.client_events.specs.WorldTexts.Texts.{Written}
 use Rattle.writer_core.specs.declared.commands.Command.{Command}
 use Rattle.writer_core.specs.declared.commands.Command.TheVariants as command
 use Rattle.writer_core.specs.declared.phases.Phase.{Phase}
@@ -31,14 +31,14 @@ use Rattle.writer_core.specs.declared.phases.Phase.TheVariants as phase
 use Rattle.writer_core.specs.declared.phases.Setup.{Setup}
 use Rattle.writer_core.specs.declared.records.WriterRecord.{WriterRecord}
 use Rattle.writer_core.specs.Transitions.{has_command_due, is_connected, own_step}
-use Rattle.pipe_recovery.specs.Steps.{fits_accepted}
+use Rattle.client_events.specs.PipeRecovery.Steps.{fits_accepted}
 use Rattle.play_model.specs.declared.dues.Due.TheVariants as due
 use Rattle.play_model.specs.Dues.{Queues, is_due, due_events, queues_after}
 use Rattle.client_events.specs.declared.faults.ClientFault.{ClientFault}
 use Rattle.client_events.specs.declared.faults.ClientFault.TheVariants as fault
 use Rattle.client_events.specs.Events.{own_event, asked_world, given_to}
 use Rattle.client_events.specs.SettingUp.{IsUnasked}
-use Rattle.member_events.specs.Joining.{SpellDown}
+use Rattle.client_events.specs.MemberEvents.Joining.{SpellDown}
 use Rattle.client_events.specs.Showing.{awaits}
 use Rattle.play_clients.specs.declared.clients.Client.{Client}
 use Rattle.play_clients.specs.declared.clients.First.{First}

@@ -7,3 +7,8 @@ pub mod Staying
 pub mod Others
 pub mod Passing
 pub mod Blocks
+pub mod ClientEvents
+pub mod MemberEvents
+pub mod PipeRecovery
+pub mod PlayModel
+pub mod WorldOrders

@@ -6,7 +6,7 @@ use Rattle.world.specs.declared.events.Event.TheVariants as event
 use Rattle.world.specs.Parts.{by_writer}
 use Rattle.world.specs.Worlds.{World}
 use Rattle.world.specs.Events.{happens, run}
-use Rattle.world_nets.specs.Nets.{is_over}
+use Rattle.client_events.specs.WorldNets.Nets.{is_over}
 use Rattle.play_model.specs.declared.dues.Due.TheVariants as due
 use Rattle.play_model.specs.Dues.{Queues, due_events}
 

@@ -8,8 +8,8 @@ use Rattle.hd_base.specs.declared.links.LinkIn as link_in
 use Rattle.hd_base.specs.declared.links.LinkOut as link_out
 use Rattle.hd_base.specs.declared.roads.Roads as roads
 use Rattle.name_core.specs.declared.desks.Desk as desks
-use Rattle.pipe_recovery.specs.declared.rebuilding.Rebuild.{Rebuild}
-use Rattle.pipe_recovery.specs.Steps.{fits_in}
+use Rattle.client_events.specs.PipeRecovery.Rebuild.{Rebuild}
+use Rattle.client_events.specs.PipeRecovery.Steps.{fits_in}
 use Rattle.world.specs.declared.events.TakenCommand.{TakenCommand}
 use Rattle.writer_core.specs.declared.commands.Command.{Command}
 use Rattle.writer_core.specs.declared.records.WriterRecord.{WriterRecord}

@@ -1,7 +1,7 @@
 -- What a client's event does to the roads.
 use Rattle.std.specs.Prelude.{IfOk, Result}
 use Rattle.hd_base.specs.declared.roads.Roads as roads
-use Rattle.member_events.specs.Roads.{RoadsPass}
+use Rattle.client_events.specs.MemberEvents.Roads.{RoadsPass}
 use Rattle.client_events.specs.declared.faults.ClientFault.{ClientFault}
 use Rattle.client_events.specs.Showing.{PipeIsKnown}
 use Rattle.play_clients.specs.declared.clients.Client.{Client}

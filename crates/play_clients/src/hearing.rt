@@ -1,19 +1,18 @@
 //! What a client hears on its writer's connection.
 
 ghost use Rattle.std.specs.Prelude.{◌≡◌, IfOk};
-ghost use Rattle.member_events.specs.Roads.{RoadsPass};
+ghost use Rattle.client_events.specs.MemberEvents.Roads.{RoadsPass};
 ghost use Rattle.client_events.specs.Showing.{PipeIsKnown, awaits};
-ghost use Rattle.pipe_recovery.specs.Dialling.{LinkIsKnown};
+ghost use Rattle.client_events.specs.PipeRecovery.Dialling.{LinkIsKnown};
 ghost use Rattle.play_clients.specs.Clients.{known_of};
 ghost use Rattle.play_clients.specs.Hearing.{SetupHears, PipeHears};
 ghost use Rattle.play_clients.specs.Events.{HearShows, HearKeepsOffice, NoneToCommit};
 ghost use Rattle.play_clients.specs.Passing.{ClientPasses};
 
 use crate::clients::Client;
-use client_events::{ClientFault, Pipe, hear_ack, hear_answer};
+use client_events::{ClientFault, Pipe, Rebuild, hear_ack, hear_answer};
 use hd_base::{LinkIn, LinkOut, Roads};
 use name_core::Desk;
-use pipe_recovery::Rebuild;
 use std::alloc::Global;
 use std::mem;
 use writer_core::{Phase, Setup, Writer};

@@ -8,6 +8,7 @@ mod hearing;
 mod others;
 mod owning;
 
+pub use client_events::{ClientFault, Pipe, Said};
 pub use clients::{Client, First, Owned};
 pub use courses::Course;
 pub use others::{clients_stay, hearing_keeps_others, own_steps_keep_others};

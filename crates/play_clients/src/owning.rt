@@ -13,10 +13,9 @@ ghost use Rattle.play_clients.specs.Passing.{ClientPasses};
 
 use crate::clients::{Client, First, Owned};
 use crate::courses::{Course, course_of};
-use client_events::{Acted, ClientFault, Pipe, Said, act, commit, complete, set_up};
+use client_events::{Acted, ClientFault, Pipe, Rebuild, Said, act, commit, complete, set_up};
 use hd_base::{Conn, ConnId, LinkIn, LinkOut, NodeId, Roads};
 use name_core::Desk;
-use pipe_recovery::Rebuild;
 use std::alloc::{AllocError, Global};
 use std::mem;
 use world::TakenCommand;

@@ -14,18 +14,18 @@ use Rattle.world.specs.Events.{down_as, down_event, outcome, happens, run}
 use Rattle.world_laws.specs.Placing.{Placed}
 use Rattle.world_laws.proofs.FactTables.{and-left, when-each}
 use Rattle.world_laws.proofs.PlacedLaws.{all-placed}
-use Rattle.world_acks.proofs.AllAcked.{all-acked, all-waiting}
+use Rattle.play_scripts.proofs.WorldAcks.AllAcked.{all-acked, all-waiting}
 use Rattle.world_orders.specs.Orders.{Ordered}
 use Rattle.world_orders.proofs.AllOrdered.{all-ordered}
-use Rattle.world_writers.specs.Taking.{IsUnmet, chain}
-use Rattle.world_writers.proofs.AllJoin.{all-join}
-use Rattle.world_writers.proofs.AllPiped.{all-piped}
+use Rattle.world_closings.specs.WorldWriters.Taking.{IsUnmet, chain}
+use Rattle.world_closings.proofs.WorldWriters.AllJoin.{all-join}
+use Rattle.world_closings.proofs.WorldWriters.AllPiped.{all-piped}
 use Rattle.play_model.specs.Laws.{IsQuiet}
-use Rattle.play_laws.specs.Members.{IsNode, AllName, IsRef}
-use Rattle.play_laws.specs.Nodes.{NodesRun}
-use Rattle.play_laws.proofs.Aiming.{targets-are}
-use Rattle.play_laws.proofs.Resting.{all-rest}
-use Rattle.play_laws.proofs.Running.{all-run}
+use Rattle.play_scripts.specs.PlayLaws.Members.{IsNode, AllName, IsRef}
+use Rattle.play_scripts.specs.PlayLaws.Nodes.{NodesRun}
+use Rattle.play_scripts.proofs.PlayLaws.Aiming.{targets-are}
+use Rattle.play_scripts.proofs.PlayLaws.Resting.{all-rest}
+use Rattle.play_scripts.proofs.PlayLaws.Running.{all-run}
 use Rattle.play_completeness.specs.Plain.{ArePlain}
 use Rattle.play_completeness.specs.Links.{Links}
 use Rattle.play_completeness.specs.Turning.{RequestsKeepLinks}

@@ -31,8 +31,8 @@ use Rattle.play_model.specs.declared.dues.Due.{Due}
 use Rattle.play_model.specs.declared.dues.Due.TheVariants as due
 use Rattle.play_model.specs.Dues.{Queues, is_open, is_open_above, is_due, when_due}
 use Rattle.play_model.specs.Laws.{IsQuiet}
-use Rattle.play_laws.specs.Nodes.{KeepsNodes, AllKeepNodes, NodesRun}
-use Rattle.play_laws.proofs.Running.{all-run}
+use Rattle.play_scripts.specs.PlayLaws.Nodes.{KeepsNodes, AllKeepNodes, NodesRun}
+use Rattle.play_scripts.proofs.PlayLaws.Running.{all-run}
 use Rattle.play_completeness.specs.Plain.{ArePlain, is_plain, Peaceful}
 use Rattle.play_completeness.specs.Links.{MemberAwaits, Awaits, pending_below, awaited, packets_left, acks_left, WaitsWell, MirrorFits, ActsWell, MemberWell, LowerWell, Link, Links}
 use Rattle.play_completeness.specs.Waiting.{is_asking, awaits_answer, IsWaiting, HasDue, AwaitedIsDue}

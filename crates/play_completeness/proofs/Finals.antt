@@ -23,14 +23,14 @@ use Rattle.world_laws.specs.Carrying.{Streams, StreamOf, WriterSays}
 use Rattle.world_laws.specs.Stamping.{Givens, none_given, given_in, known_heard, heard, IsSetup, InPhase, Entries, HeldOf}
 use Rattle.world_laws.proofs.AllCarried.{all-carried}
 use Rattle.world_laws.proofs.AllRecorded.{all-recorded}
-use Rattle.world_acks.specs.Closing.{FinalUnder, IsClosed, IsPassed}
-use Rattle.world_finals.specs.Finishing.{Ids, no_ids, ids_in, EndsAt, FinalLength, of_recovery, of_session, IsFinalOf, WriteEnds}
-use Rattle.world_finals.proofs.AllFinal.{all-final}
+use Rattle.play_scripts.specs.WorldAcks.Closing.{FinalUnder, IsClosed, IsPassed}
+use Rattle.world_closings.specs.WorldFinals.Finishing.{Ids, no_ids, ids_in, EndsAt, FinalLength, of_recovery, of_session, IsFinalOf, WriteEnds}
+use Rattle.world_closings.proofs.WorldFinals.AllFinal.{all-final}
 use Rattle.world_closings.specs.Answering.{MembersClosed, ClosesIn}
 use Rattle.world_closings.proofs.Laws.{all-close}
 use Rattle.play_model.specs.Laws.{IsQuiet}
-use Rattle.play_laws.specs.Members.{IsNode, AllName}
-use Rattle.play_laws.proofs.Resting.{members-are}
+use Rattle.play_scripts.specs.PlayLaws.Members.{IsNode, AllName}
+use Rattle.play_scripts.proofs.PlayLaws.Resting.{members-are}
 use Rattle.play_completeness.specs.Formed.{HasRule}
 use Rattle.play_completeness.specs.Links.{IsFinalWith}
 use Rattle.play_completeness.specs.Plain.{ArePlain, IsLeased}

@@ -24,8 +24,8 @@ use Rattle.world_laws.proofs.AllCarried.{all-carried}
 use Rattle.world_laws.proofs.FactTables.{when-each}
 use Rattle.world_laws.proofs.FilledLaws.{all-filled}
 use Rattle.world_laws.proofs.PlacedLaws.{all-placed}
-use Rattle.world_acks.specs.Acking.{Mirrors, UpperTells}
-use Rattle.world_acks.proofs.AllAcked.{all-acked}
+use Rattle.play_scripts.specs.WorldAcks.Acking.{Mirrors, UpperTells}
+use Rattle.play_scripts.proofs.WorldAcks.AllAcked.{all-acked}
 use Rattle.world_orders.specs.Orders.{pipeline, comes_up, HasDialled, Ordered}
 use Rattle.world_orders.specs.Takes.{is_asked, TakesInOrder}
 use Rattle.world_orders.proofs.AllOrdered.{all-ordered, next-found}

@@ -26,8 +26,8 @@ use Rattle.play_model.specs.declared.dues.Due.TheVariants as due
 use Rattle.play_model.specs.States.{PlayState, world_of}
 use Rattle.play_model.specs.Dues.{is_open, is_open_above, is_due, after_due}
 use Rattle.play_model.specs.Laws.{IsQuiet}
-use Rattle.play_laws.specs.Members.{IsNode, EventNames}
-use Rattle.play_laws.proofs.Untold.{stays-quiet}
+use Rattle.play_scripts.specs.PlayLaws.Members.{IsNode, EventNames}
+use Rattle.play_scripts.proofs.PlayLaws.Untold.{stays-quiet}
 use Rattle.play_completeness.specs.Formed.{Ruled}
 use Rattle.play_completeness.specs.Keeping.{PlayedOn, ConnsKeepPlays}
 use Rattle.play_completeness.specs.Links.{LowerWell, Links}

@@ -52,3 +52,6 @@ pub mod OwnFacts
 pub mod ScriptBlocks
 pub mod Folding
 pub mod SafePlays
+pub mod PlayLaws
+pub mod WorldFinals
+pub mod WorldOrders

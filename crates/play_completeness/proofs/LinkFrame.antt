@@ -13,8 +13,8 @@ use Rattle.member_core.specs.Requests.{setup_with}
 use Rattle.world.specs.Parts.{Message, Upper, Dialled, FullMember, Lower, idle, writes, serves, recovers, ended_below}
 use Rattle.world.specs.Worlds.{World}
 use Rattle.world.specs.Nodes.{node_on, block_of, node_of, replica_at}
-use Rattle.world_acks.specs.Acking.{Asked}
-use Rattle.world_writers.specs.Taking.{chain}
+use Rattle.play_scripts.specs.WorldAcks.Acking.{Asked}
+use Rattle.world_closings.specs.WorldWriters.Taking.{chain}
 use Rattle.play_model.specs.Dues.{is_open}
 use Rattle.play_completeness.specs.Streams.{Flows, Reach}
 use Rattle.play_completeness.specs.Links.{Awaits, pending_below, awaited, packets_left, acks_left, reach_below, reach_above, rule_above, ReachFits, MayTake, IsEarly, WritesWell, ActsWell, LowerWell, IsRequest, IsGoodUp, EndsWell, Carries, Link}

@@ -21,10 +21,10 @@ use Rattle.world.specs.Parts.{Message, request, Upper, by_member, Dialled, FullM
 use Rattle.world.specs.Worlds.{World}
 use Rattle.world.specs.Nodes.{block_of, node_of, node_on, replica_at}
 use Rattle.world_laws.specs.Placing.{Placed}
-use Rattle.world_acks.specs.Acking.{promised}
+use Rattle.play_scripts.specs.WorldAcks.Acking.{promised}
 use Rattle.world_orders.proofs.Kept.{sent-here}
 use Rattle.world_orders.specs.Orders.{IsBelow, Ordered}
-use Rattle.world_writers.specs.Taking.{chain}
+use Rattle.world_closings.specs.WorldWriters.Taking.{chain}
 use Rattle.play_model.specs.Dues.{is_open}
 use Rattle.play_completeness.specs.Streams.{packets_in, acks_in, first_reach, reach_in}
 use Rattle.play_completeness.specs.Links.{MemberAwaits, Awaits, pending_below, awaited, packets_left, acks_left, member_reach, member_rule, reach_below, reach_above, MayTake, IsRequest, IsEarly, WritesWell, MirrorFits, ActsWell, LowerWell, IsGoodUp, Carries, Link, Links}

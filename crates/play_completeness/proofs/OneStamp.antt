@@ -18,13 +18,13 @@ use Rattle.world_laws.specs.Carrying.{new_stamp}
 use Rattle.world_laws.specs.Placing.{Placed, IsUpper}
 use Rattle.world_laws.specs.Stamping.{known_heard, heard}
 use Rattle.world_laws.proofs.FactTables.{and-right}
-use Rattle.world_acks.specs.Acking.{Mirrors, UpperTells}
-use Rattle.world_acks.specs.Waiting.{Requests}
+use Rattle.play_scripts.specs.WorldAcks.Acking.{Mirrors, UpperTells}
+use Rattle.play_scripts.specs.WorldAcks.Waiting.{Requests}
 use Rattle.world_orders.specs.Orders.{IsMirror, MirrorIs, Ordered}
-use Rattle.world_writers.specs.Piping.{setup_stamp, Piped, PipedOf}
+use Rattle.world_closings.specs.WorldWriters.Piping.{setup_stamp, Piped, PipedOf}
 use Rattle.play_model.specs.Dues.{is_open}
 use Rattle.play_model.specs.Laws.{IsQuiet}
-use Rattle.play_laws.specs.Writers.{Rests}
+use Rattle.play_scripts.specs.PlayLaws.Writers.{Rests}
 use Rattle.play_completeness.specs.Links.{MemberAwaits, Awaits, member_rule, rule_above, WritesWell, MemberWell, LowerWell, Link, Links}
 use Rattle.play_completeness.proofs.UpSteps.{same-fields}
 

@@ -23,9 +23,9 @@ use Rattle.world_laws.proofs.AllCarried.{all-carried}
 use Rattle.world_laws.proofs.RunLaws.{runs-join, runs-end}
 use Rattle.play_model.specs.States.{PlayState, world_of}
 use Rattle.play_model.specs.Dues.{asking, acting, own_events, action_of, after_due}
-use Rattle.play_laws.specs.Members.{IsNode, Names, AllName}
-use Rattle.play_laws.proofs.Commanding.{creates-first}
-use Rattle.play_laws.proofs.Running.{all-run}
+use Rattle.play_scripts.specs.PlayLaws.Members.{IsNode, Names, AllName}
+use Rattle.play_scripts.proofs.PlayLaws.Commanding.{creates-first}
+use Rattle.play_scripts.proofs.PlayLaws.Running.{all-run}
 use Rattle.play_completeness.specs.Formed.{Ruled}
 use Rattle.play_completeness.specs.Keeping.{OwnKeepsNames}
 use Rattle.play_completeness.specs.Played.{QueueFits, Played}

@@ -36,7 +36,7 @@ use Rattle.world.specs.Worlds.{start}
 use Rattle.world.specs.Events.{run}
 use Rattle.world_laws.specs.Stamping.{known_heard, heard}
 use Rattle.world_orders.proofs.Lists.{Behind, get-append}
-use Rattle.world_writers.proofs.AllMove.{all-move}
+use Rattle.world_closings.proofs.WorldWriters.AllMove.{all-move}
 use Rattle.play_completeness.specs.Formed.{FormedWell, AllFormed}
 use Rattle.play_completeness.proofs.Flowing.{end-found}
 use Rattle.play_completeness.proofs.MovesKeep.{Goes, goes-same, keeps, moves, ended-goes, answered-goes, dialled-goes, acked-goes, granted-goes}

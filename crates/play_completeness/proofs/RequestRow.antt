@@ -30,7 +30,7 @@ use Rattle.member_core.specs.Members.{no_effect, sending, mirror_for, new_member
 use Rattle.member_core.specs.Requests.{check, setup_with, rule_for, fitting, named_setup, named_rule, setup_event, request_event, is_close_setup, closes, request_from, request_to, mirror_request}
 use Rattle.member_core.specs.Steps.{refused_by, taken_request, booked_request, request_at, request_step}
 use Rattle.world_laws.specs.Carrying.{stamp_set, new_stamp}
-use Rattle.world_acks.specs.Acking.{least_of, promised}
+use Rattle.play_scripts.specs.WorldAcks.Acking.{least_of, promised}
 use Rattle.world_orders.proofs.Kept.{eqb-itself}
 use Rattle.play_completeness.specs.Plain.{IsOwn}
 use Rattle.play_completeness.specs.Links.{IsFinalWith, MayTake, IsRequest}

@@ -31,7 +31,7 @@ use Rattle.world_laws.specs.Placing.{Placed}
 use Rattle.world_orders.specs.Orders.{IsBelow, Ordered}
 use Rattle.world_orders.proofs.AllOrdered.{next-found}
 use Rattle.world_orders.proofs.Frame.{marked}
-use Rattle.world_writers.specs.Taking.{chain}
+use Rattle.world_closings.specs.WorldWriters.Taking.{chain}
 use Rattle.play_model.specs.Dues.{is_open}
 use Rattle.play_completeness.specs.Plain.{Peaceful}
 use Rattle.play_completeness.specs.Links.{MayTake, WaitsWell, LowerWell, IsGoodUp, Link, Links}

@@ -23,8 +23,8 @@ use Rattle.world.specs.Safe.{Has}
 use Rattle.world_laws.specs.Stamping.{known_heard, heard}
 use Rattle.world_laws.proofs.AllCarried.{all-carried}
 use Rattle.world_orders.specs.Orders.{is_requested}
-use Rattle.world_writers.specs.Piping.{Piped}
-use Rattle.world_writers.proofs.AllPiped.{all-piped}
+use Rattle.world_closings.specs.WorldWriters.Piping.{Piped}
+use Rattle.world_closings.proofs.WorldWriters.AllPiped.{all-piped}
 use Rattle.play_model.specs.declared.dues.Due.{Due}
 use Rattle.play_model.specs.declared.dues.Due.TheVariants as due
 use Rattle.play_model.specs.States.{PlayState, world_of}

@@ -24,7 +24,7 @@ use Rattle.member_core.specs.Steps.{Step, step}
 use Rattle.world.specs.Parts.{Message, request, packet, ack, response, read_status, recovery_answer, Marks}
 use Rattle.world.specs.Worlds.{Past}
 use Rattle.world.specs.Connections.{message, the_end, ends_at, next_on}
-use Rattle.world_acks.specs.Acking.{Asked, Mirrors}
+use Rattle.play_scripts.specs.WorldAcks.Acking.{Asked, Mirrors}
 use Rattle.world_orders.specs.Orders.{is_ack, is_response}
 
 -- THE CHAIN

@@ -33,7 +33,7 @@ use Rattle.world_laws.specs.Filling.{Filled}
 use Rattle.world_laws.specs.Placing.{Placed}
 use Rattle.world_laws.proofs.FactTables.{and-right}
 use Rattle.world_laws.proofs.StampGivens.{put-here}
-use Rattle.world_acks.specs.Acking.{Mirrors}
+use Rattle.play_scripts.specs.WorldAcks.Acking.{Mirrors}
 use Rattle.world_orders.specs.Orders.{Ordered}
 use Rattle.world_orders.specs.Takes.{TakesInOrder}
 use Rattle.world_orders.proofs.Frame.{marked}

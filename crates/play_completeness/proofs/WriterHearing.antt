@@ -33,12 +33,12 @@ use Rattle.world_laws.proofs.PlacedLaws.{all-placed}
 use Rattle.world_orders.specs.Orders.{pipeline, comes_up, is_requested}
 use Rattle.world_orders.proofs.AllOrdered.{all-ordered, next-found}
 use Rattle.world_orders.proofs.Takes.{takes-in-order}
-use Rattle.world_writers.specs.Piping.{Piped}
-use Rattle.world_writers.proofs.AllPiped.{all-piped}
+use Rattle.world_closings.specs.WorldWriters.Piping.{Piped}
+use Rattle.world_closings.proofs.WorldWriters.AllPiped.{all-piped}
 use Rattle.play_model.specs.Dues.{is_open}
 use Rattle.play_model.specs.Laws.{IsQuiet}
-use Rattle.play_laws.proofs.Early.{nothing-early}
-use Rattle.play_laws.proofs.Resting.{all-rest}
+use Rattle.play_scripts.proofs.PlayLaws.Early.{nothing-early}
+use Rattle.play_scripts.proofs.PlayLaws.Resting.{all-rest}
 use Rattle.play_completeness.specs.Streams.{acks_in, HasLast}
 use Rattle.play_completeness.specs.Links.{Awaits, acks_left, Carries, Links}
 use Rattle.play_completeness.specs.Writers.{WellIn, Writers}

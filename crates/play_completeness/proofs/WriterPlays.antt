@@ -34,10 +34,10 @@ use Rattle.world_orders.proofs.AllOrdered.{all-ordered, next-found}
 use Rattle.world_orders.proofs.Takes.{takes-in-order}
 use Rattle.play_model.specs.declared.dues.Due.TheVariants as due
 use Rattle.play_model.specs.Laws.{IsQuiet}
-use Rattle.play_laws.specs.Members.{IsNode, EventNames, AllName}
-use Rattle.play_laws.proofs.Early.{nothing-early}
-use Rattle.play_laws.proofs.Resting.{all-rest}
-use Rattle.play_laws.proofs.Untold.{stays-quiet}
+use Rattle.play_scripts.specs.PlayLaws.Members.{IsNode, EventNames, AllName}
+use Rattle.play_scripts.proofs.PlayLaws.Early.{nothing-early}
+use Rattle.play_scripts.proofs.PlayLaws.Resting.{all-rest}
+use Rattle.play_scripts.proofs.PlayLaws.Untold.{stays-quiet}
 use Rattle.play_completeness.specs.Formed.{Formed, HasRule, AllHave, Ruled}
 use Rattle.play_completeness.specs.Links.{IsFinalWith, Links}
 use Rattle.play_completeness.specs.Plain.{is_plain, ArePlain}

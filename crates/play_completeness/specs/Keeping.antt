@@ -8,7 +8,7 @@ use Rattle.play_model.specs.declared.dues.Due.TheVariants as due
 use Rattle.world.specs.Worlds.{add}
 use Rattle.play_model.specs.States.{PlayState, world_of, opened, ordered}
 use Rattle.play_model.specs.Dues.{is_due, after_due}
-use Rattle.play_laws.specs.Members.{IsNode, AllName}
+use Rattle.play_scripts.specs.PlayLaws.Members.{IsNode, AllName}
 use Rattle.play_completeness.specs.Complete.{WritesBytes}
 use Rattle.play_completeness.specs.Formed.{Ruled}
 use Rattle.play_completeness.specs.Played.{QueueFits, Played, ordered_queue}

@@ -11,3 +11,8 @@ pub mod Formed
 pub mod Keeping
 pub mod Blocks
 pub mod Safety
+pub mod PlayLaws
+pub mod WorldAcks
+pub mod WorldFinals
+pub mod WorldOrders
+pub mod WorldWriters

@@ -42,8 +42,8 @@ use Rattle.world.specs.Parts.{Message, request, response, ack, Upper, by_writer,
 use Rattle.world.specs.Worlds.{World}
 use Rattle.world.specs.Nodes.{block_of, replica_at}
 use Rattle.world_laws.specs.Carrying.{new_stamp}
-use Rattle.world_acks.specs.Acking.{Asked, promised}
-use Rattle.world_writers.specs.Taking.{chain}
+use Rattle.play_scripts.specs.WorldAcks.Acking.{Asked, promised}
+use Rattle.world_closings.specs.WorldWriters.Taking.{chain}
 use Rattle.play_model.specs.Dues.{is_open}
 use Rattle.play_completeness.specs.Streams.{packets_in, acks_in, as_pending, Flows, Reach, first_reach, reach_in, reach_of, Leads}
 

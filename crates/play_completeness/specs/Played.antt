@@ -34,7 +34,7 @@ use Rattle.world.specs.Safe.{Has}
 use Rattle.play_model.specs.States.{PlayState, world_of, opened, ordered}
 use Rattle.play_model.specs.Dues.{dues}
 use Rattle.play_model.specs.Laws.{IsQuiet}
-use Rattle.play_laws.specs.Members.{IsNode, Names}
+use Rattle.play_scripts.specs.PlayLaws.Members.{IsNode, Names}
 use Rattle.play_completeness.specs.Complete.{WritesBytes, is_answered, bytes_after, IsDone, IsGood, AllDone, ClosesWhole}
 use Rattle.play_completeness.specs.Plain.{ArePlain, Peaceful}
 use Rattle.play_completeness.specs.Links.{Links}

@@ -9,7 +9,7 @@ use Rattle.world.specs.Worlds.{start}
 use Rattle.world.specs.Events.{run, happens}
 use Rattle.play_model.specs.Dues.{is_open}
 use Rattle.play_model.specs.Laws.{IsQuiet}
-use Rattle.play_laws.specs.Members.{IsNode, AllName}
+use Rattle.play_scripts.specs.PlayLaws.Members.{IsNode, AllName}
 use Rattle.play_completeness.specs.Plain.{ArePlain}
 use Rattle.play_completeness.specs.Links.{Links}
 

@@ -8,17 +8,17 @@ use Rattle.hd_base.specs.declared.roads.Roads as roads
 use Rattle.rand_pcg.specs.Lcg.{Lcg}
 use Rattle.rand_pcg.specs.Pcg.{pcg32}
 use Rattle.world.specs.Worlds.{World}
-use Rattle.world_laws.specs.Placing.{Placed}
+use Rattle.play_model.specs.WorldLaws.Placing.{Placed}
 use Rattle.play_model.specs.declared.dues.Due.{Due}
 use Rattle.play_model.specs.Draws.{drawn_from, happened}
 use Rattle.play_model.specs.Dues.{Queues}
 use Rattle.play_model.specs.States.{PlayState}
 use Rattle.play_clients.specs.declared.clients.Client.{Client}
-use Rattle.play_nodes.specs.declared.nodes.Nodes.{Nodes}
-use Rattle.play_nodes.proofs.Tables.{element}
+use Rattle.play_reads.specs.PlayNodes.Nodes.{Nodes}
+use Rattle.play_reads.proofs.PlayNodes.Tables.{element}
 use Rattle.play_reads.specs.declared.reads.Reads.{Reads}
 use Rattle.play_recoveries.specs.declared.recoveries.Recoveries.{Recoveries}
-use Rattle.play_readers.specs.Asks.{asks_of}
+use Rattle.play_reads.specs.PlayReaders.Asks.{asks_of}
 use Rattle.play_recoveries.specs.Places.{recoveries_of}
 use Rattle.play_dues.specs.declared.live.LiveConns.{LiveConns}
 use Rattle.play_dues.specs.Drawing.{DrawsFrom, DrawsDue}

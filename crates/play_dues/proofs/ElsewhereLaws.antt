@@ -8,12 +8,12 @@ use Rattle.road_traffic.specs.Showing.{Net}
 use Rattle.world.specs.Parts as parts
 use Rattle.world.specs.Parts.{by_writer, by_member, by_reader, by_primary}
 use Rattle.world.specs.Worlds.{World}
-use Rattle.world_orders.specs.Orders.{purpose_of, reading, recovering}
-use Rattle.play_nodes.specs.declared.connections.Connection.{Connection}
-use Rattle.play_nodes.specs.declared.nodes.Nodes.{Nodes}
-use Rattle.play_nodes.specs.Dues.{is_elsewhere, TellsElsewhere}
-use Rattle.play_nodes.specs.Showing.{is_pipeline, IsOfPipeline, stands_here, NodesShow}
-use Rattle.play_nodes.proofs.PlaceLaws.{element_within}
+use Rattle.play_clients.specs.WorldOrders.Orders.{purpose_of, reading, recovering}
+use Rattle.play_reads.specs.PlayNodes.Connection.{Connection}
+use Rattle.play_reads.specs.PlayNodes.Nodes.{Nodes}
+use Rattle.play_reads.specs.PlayNodes.Dues.{is_elsewhere, TellsElsewhere}
+use Rattle.play_reads.specs.PlayNodes.Showing.{is_pipeline, IsOfPipeline, stands_here, NodesShow}
+use Rattle.play_reads.proofs.PlayNodes.PlaceLaws.{element_within}
 use Rattle.play_recoveries.specs.declared.dues.Dialler.{Dialler}
 use Rattle.play_recoveries.specs.Dues.{TellsDialler, pair_of, primary_in}
 

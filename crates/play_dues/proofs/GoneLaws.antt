@@ -16,9 +16,9 @@ use Rattle.world.specs.Enabled.{leads_from, listens_at}
 use Rattle.world.specs.Parts.{Place, Leading, Primary, no_primary, was_told, leads, has_led}
 use Rattle.world.specs.Primaries.{listens}
 use Rattle.world.specs.Worlds.{World}
-use Rattle.world_laws.proofs.FactTables.{if-each}
-use Rattle.world_recoveries.specs.Recovering.{IsPlacedIn}
-use Rattle.play_nodes.proofs.Tables.{set_there, same_or}
+use Rattle.play_model.proofs.WorldLaws.FactTables.{if-each}
+use Rattle.play_reads.specs.WorldRecoveries.Recovering.{IsPlacedIn}
+use Rattle.play_reads.proofs.PlayNodes.Tables.{set_there, same_or}
 
 -- WHERE NOTHING IS LISTENED TO
 

@@ -15,3 +15,7 @@ pub mod LiveLaws
 pub mod DrawingLaws
 pub mod PrimaryLaws
 pub mod StepLaws
+pub mod PlayClients
+pub mod PlayReaders
+pub mod PlayReads
+pub mod PlayRecoveries

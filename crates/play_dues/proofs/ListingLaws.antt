@@ -18,17 +18,17 @@ use Rattle.play_model.specs.declared.dues.Due.{Due}
 use Rattle.play_model.specs.declared.dues.Due.TheVariants as due
 use Rattle.play_model.specs.Dues.{Queues, is_unbegun, own_due, own_dues, reader_dues, primary_dues, conn_dues}
 use Rattle.play_clients.specs.declared.clients.Client.{Client}
-use Rattle.play_nodes.specs.declared.nodes.Nodes.{Nodes}
-use Rattle.play_nodes.proofs.JoinNodes.{passes_at, place_there}
-use Rattle.play_nodes.proofs.Numbers.{same_place}
-use Rattle.play_nodes.proofs.PlaceLaws.{same_some}
-use Rattle.play_primaries.specs.declared.clients.PrimaryClient.{PrimaryClient}
-use Rattle.play_primaries.proofs.DueLaws.{state_due}
+use Rattle.play_reads.specs.PlayNodes.Nodes.{Nodes}
+use Rattle.play_reads.proofs.PlayNodes.JoinNodes.{passes_at, place_there}
+use Rattle.play_reads.proofs.PlayNodes.Numbers.{same_place}
+use Rattle.play_reads.proofs.PlayNodes.PlaceLaws.{same_some}
+use Rattle.play_reads.specs.PlayPrimaries.PrimaryClient.{PrimaryClient}
+use Rattle.play_reads.proofs.PlayPrimaries.DueLaws.{state_due}
 use Rattle.play_recoveries.specs.Places.{recoveries_of}
-use Rattle.play_readers.specs.declared.clients.ReadClient.{ReadClient}
+use Rattle.play_reads.specs.PlayReaders.ReadClient.{ReadClient}
 use Rattle.play_reads.specs.declared.reads.Reads.{Reads}
 use Rattle.play_recoveries.specs.declared.recoveries.Recoveries.{Recoveries}
-use Rattle.play_readers.specs.Asks.{asks_of}
+use Rattle.play_reads.specs.PlayReaders.Asks.{asks_of}
 use Rattle.play_dues.specs.declared.conns.ConnDues.{ConnDues}
 use Rattle.play_dues.specs.Conns.{listed, TellsUpper, TellsConn}
 use Rattle.play_dues.specs.Listing.{shown_dues, CountsFront, StandsBehind, CountsDues, PicksDue, TellsDue, IsAlone}

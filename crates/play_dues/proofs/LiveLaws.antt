@@ -10,15 +10,15 @@ use Rattle.hd_base.specs.declared.links.LinkOut as link_out
 use Rattle.hd_base.specs.declared.numbers.ConnId.{ConnId}
 use Rattle.world.specs.Worlds.{World}
 use Rattle.world.specs.Events.{run}
-use Rattle.world_laws.specs.Placing.{Placed}
+use Rattle.play_model.specs.WorldLaws.Placing.{Placed}
 use Rattle.play_model.specs.declared.asks.ReadAsk.{ReadAsk}
 use Rattle.play_model.specs.declared.recoveries.Recovery.{Recovery}
 use Rattle.play_model.specs.declared.dues.Due.{Due}
 use Rattle.play_model.specs.Dues.{Queues, when, upto, is_due, conn_dues, own_dues, reader_dues, primary_dues, due_events}
 use Rattle.play_clients.specs.declared.clients.Client.{Client}
-use Rattle.play_nodes.specs.declared.nodes.Nodes.{Nodes}
-use Rattle.play_nodes.specs.Dues.{IsOrderly}
-use Rattle.play_primaries.specs.Dues.{ArePlaced}
+use Rattle.play_reads.specs.PlayNodes.Nodes.{Nodes}
+use Rattle.play_reads.specs.PlayNodes.Dues.{IsOrderly}
+use Rattle.play_reads.specs.PlayPrimaries.Dues.{ArePlaced}
 use Rattle.play_reads.specs.declared.reads.Reads.{Reads}
 use Rattle.play_recoveries.specs.declared.recoveries.Recoveries.{Recoveries}
 use Rattle.play_dues.specs.declared.live.LiveConns.{LiveConns}

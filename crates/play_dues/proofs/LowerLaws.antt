@@ -5,9 +5,9 @@ use Rattle.hd_base.specs.declared.links.LinkIn as link_in
 use Rattle.hd_base.specs.declared.links.LinkOut as link_out
 use Rattle.hd_base.specs.declared.numbers.ConnId.{ConnId}
 use Rattle.hd_base.specs.declared.roads.Roads as roads
-use Rattle.play_nodes.specs.declared.nodes.Nodes.{Nodes}
-use Rattle.play_nodes.specs.Dues as nodes
-use Rattle.play_nodes.specs.Dues.{is_elsewhere, TellsElsewhere}
+use Rattle.play_reads.specs.PlayNodes.Nodes.{Nodes}
+use Rattle.play_reads.specs.PlayNodes.Dues as nodes
+use Rattle.play_reads.specs.PlayNodes.Dues.{is_elsewhere, TellsElsewhere}
 use Rattle.play_reads.specs.declared.reads.Reads.{Reads}
 use Rattle.play_reads.specs.Dues as of_reads
 use Rattle.play_dues.specs.Lowers.{TellsLower, TellsActs}

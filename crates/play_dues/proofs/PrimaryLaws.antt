@@ -8,9 +8,9 @@ use Rattle.play_model.specs.declared.dues.Due.{Due}
 use Rattle.play_model.specs.declared.dues.Due.TheVariants as due
 use Rattle.play_model.specs.Dues.{Queues, primary_dues, when}
 use Rattle.play_model.specs.Recoveries.{recovery_due}
-use Rattle.play_primaries.specs.declared.clients.PrimaryClient.{PrimaryClient}
-use Rattle.play_primaries.specs.Clients.{PrimaryClientShows}
-use Rattle.play_primaries.proofs.DueLaws.{state_due}
+use Rattle.play_reads.specs.PlayPrimaries.PrimaryClient.{PrimaryClient}
+use Rattle.play_reads.specs.PlayPrimaries.Clients.{PrimaryClientShows}
+use Rattle.play_reads.proofs.PlayPrimaries.DueLaws.{state_due}
 use Rattle.play_recoveries.specs.Places.{recoveries_of}
 use Rattle.play_dues.specs.Primaries.{primaries_listed}
 

@@ -7,11 +7,11 @@ use Rattle.world.specs.Worlds.{World}
 use Rattle.play_model.specs.declared.dues.Due.{Due}
 use Rattle.play_model.specs.declared.dues.Due.TheVariants as due
 use Rattle.play_model.specs.Dues.{Queues, is_unbegun, reader_dues, when}
-use Rattle.play_readers.specs.declared.clients.ReadClient.{ReadClient}
-use Rattle.play_readers.specs.declared.clients.ReadState.{ReadState}
-use Rattle.play_readers.specs.declared.clients.ReadState.TheVariants as state
-use Rattle.play_readers.specs.Clients.{is_new, StateShows, ReadClientShows}
-use Rattle.play_readers.specs.Asks.{asks_of}
+use Rattle.play_reads.specs.PlayReaders.ReadClient.{ReadClient}
+use Rattle.play_reads.specs.PlayReaders.ReadState.{ReadState}
+use Rattle.play_reads.specs.PlayReaders.ReadState.TheVariants as state
+use Rattle.play_reads.specs.PlayReaders.Clients.{is_new, StateShows, ReadClientShows}
+use Rattle.play_reads.specs.PlayReaders.Asks.{asks_of}
 use Rattle.play_dues.specs.Readers.{readers_listed}
 
 module _ {I O : Type 0} (i : link_in.Ghosts I) (o : link_out.Ghosts O) (w : World) (net : Net) where

@@ -7,28 +7,28 @@ use Rattle.hd_base.specs.declared.links.LinkOut as link_out
 use Rattle.hd_base.specs.declared.numbers.BlockId.{BlockId}
 use Rattle.hd_base.specs.declared.numbers.ConnId.{ConnId}
 use Rattle.hd_base.specs.declared.numbers.NodeId.{NodeId}
-use Rattle.member_core.specs.Members.{hears}
+use Rattle.world.specs.MemberCore.Members.{hears}
 use Rattle.road_traffic.specs.Showing.{Net}
 use Rattle.world.specs.Connections.{Next, next_down, next_up, is_alive, is_conn, is_served}
 use Rattle.world.specs.Enabled.{leads_from, takes_down, acts_below, hears_mirror, reads_from, takes_above}
 use Rattle.world.specs.Parts as parts
 use Rattle.world.specs.Parts.{by_writer, by_member, by_reader, by_primary, idle, writes, serves, recovers, ended_below}
 use Rattle.world.specs.Worlds.{World}
-use Rattle.world_laws.specs.Placing.{IsUpper, Placed}
-use Rattle.world_laws.proofs.FactTables.{if-each, and-left, and-right}
-use Rattle.world_nets.specs.Nets.{is_over}
+use Rattle.play_model.specs.WorldLaws.Placing.{IsUpper, Placed}
+use Rattle.play_model.proofs.WorldLaws.FactTables.{if-each, and-left, and-right}
+use Rattle.play_reads.specs.WorldNets.Nets.{is_over}
 use Rattle.play_model.specs.Dues.{Queues, is_open, is_open_above, conn_dues, when}
 use Rattle.play_clients.specs.declared.clients.Client.{Client}
-use Rattle.play_nodes.specs.declared.connections.Connection.{Connection}
-use Rattle.play_nodes.specs.declared.connections.Lower.{Lower}
-use Rattle.play_nodes.specs.declared.connections.Lower.TheVariants as lower
-use Rattle.play_nodes.specs.declared.connections.Upper.{Upper}
-use Rattle.play_nodes.specs.declared.connections.Upper.TheVariants as upper
-use Rattle.play_nodes.specs.declared.nodes.Nodes.{Nodes}
-use Rattle.play_nodes.specs.Dues.{is_elsewhere, TellsElsewhere}
-use Rattle.play_nodes.specs.Showing.{has_events, UpperShows, stands_here, LowerShows}
-use Rattle.play_nodes.proofs.JoinNodes.{passes_at, place_there}
-use Rattle.play_nodes.proofs.PlaceLaws.{element_within}
+use Rattle.play_reads.specs.PlayNodes.Connection.{Connection}
+use Rattle.play_reads.specs.PlayNodes.Lower.{Lower}
+use Rattle.play_reads.specs.PlayNodes.Lower.TheVariants as lower
+use Rattle.play_reads.specs.PlayNodes.Upper.{Upper}
+use Rattle.play_reads.specs.PlayNodes.Upper.TheVariants as upper
+use Rattle.play_reads.specs.PlayNodes.Nodes.{Nodes}
+use Rattle.play_reads.specs.PlayNodes.Dues.{is_elsewhere, TellsElsewhere}
+use Rattle.play_reads.specs.PlayNodes.Showing.{has_events, UpperShows, stands_here, LowerShows}
+use Rattle.play_reads.proofs.PlayNodes.JoinNodes.{passes_at, place_there}
+use Rattle.play_reads.proofs.PlayNodes.PlaceLaws.{element_within}
 use Rattle.play_reads.specs.declared.reads.Reads.{Reads}
 use Rattle.play_recoveries.specs.declared.recoveries.Recoveries.{Recoveries}
 use Rattle.play_reads.specs.Dues as of_reads

@@ -8,9 +8,9 @@ use Rattle.hd_base.specs.declared.numbers.NodeId.{NodeId}
 use Rattle.name_core.specs.declared.calls.OfficeAnswer.TheVariants as office
 use Rattle.op_headers.specs.declared.ops.Op.{Op}
 use Rattle.op_headers.specs.declared.ops.ReadOp.{ReadOp}
-use Rattle.read_core.specs.declared.reading.ReadTurn.{ReadTurn}
-use Rattle.read_core.specs.declared.reading.ReadTurn.TheVariants as turn
-use Rattle.read_core.specs.Readings.{ReadingState, ReadTaken, take_from}
+use Rattle.world.specs.ReadCore.ReadTurn.{ReadTurn}
+use Rattle.world.specs.ReadCore.ReadTurn.TheVariants as turn
+use Rattle.world.specs.ReadCore.Readings.{ReadingState, ReadTaken, take_from}
 use Rattle.recovery_core.specs.declared.primary.OwnStep.{OwnStep}
 use Rattle.recovery_core.specs.declared.primary.OwnStep.TheVariants as step
 use Rattle.recovery_core.specs.declared.standings.Standing.{Standing}
@@ -24,7 +24,7 @@ use Rattle.writer_core.specs.declared.phases.Waiting.{Waiting}
 use Rattle.writer_core.specs.declared.records.WriterRecord.{WriterRecord}
 use Rattle.writer_core.specs.Transitions.{given, own_step, dial_step, open_step, completed_step, granted, dialled, is_connected}
 use Rattle.writer_core.specs.Transitions as writer
-use Rattle.member_core.specs.Members.{hears}
+use Rattle.world.specs.MemberCore.Members.{hears}
 use Rattle.world.specs.declared.events.Event.{Event}
 use Rattle.world.specs.declared.events.Event.TheVariants as event
 use Rattle.world.specs.declared.events.TakenCommand.{TakenCommand}
@@ -36,16 +36,16 @@ use Rattle.world.specs.Enabled.{takes_down, acts_below, leads_from, listens_at, 
 use Rattle.world.specs.Events.{changed, outcome, after_event, happens, run, down_as, upper_up, up_as}
 use Rattle.world.specs.Nodes.{lower_down, lower_ready, mirror_up}
 use Rattle.world.specs.Primaries.{begins_as, begins_at, commits_step, heard_of, hears_change, leads_step, leads_told, listens, own_primary, own_primary_as, own_recover, primary_asks, primary_commits, primary_up, primary_up_as, writer_asks, writer_asks_office}
-use Rattle.world_laws.specs.Placing.{IsUpper, Placed}
-use Rattle.world_laws.proofs.FactTables.{if-each, when-each, and-left, and-right}
-use Rattle.world_laws.proofs.GrowthLaws.{apply-grows}
-use Rattle.world_nets.specs.Nets.{is_over}
-use Rattle.world_nets.proofs.StepLemmas.{changed-over}
-use Rattle.world_orders.specs.Open.{OpenEnds}
-use Rattle.world_orders.proofs.OpenFrame.{IsOpenMirror, below-over, mirror-over, LowerOpens}
-use Rattle.world_orders.proofs.OpenLowers.{lower-down-opens, lower-ready-opens, mirror-up-opens}
-use Rattle.world_settling.proofs.PrimaryAsides.{Aside, lower-down-aside, lower-ready-aside, mirror-up-aside}
-use Rattle.world_settling.proofs.ReaderNodeAsides.{Stays, lower-down-stays, lower-ready-stays, mirror-up-stays}
+use Rattle.play_model.specs.WorldLaws.Placing.{IsUpper, Placed}
+use Rattle.play_model.proofs.WorldLaws.FactTables.{if-each, when-each, and-left, and-right}
+use Rattle.play_model.proofs.WorldLaws.GrowthLaws.{apply-grows}
+use Rattle.play_reads.specs.WorldNets.Nets.{is_over}
+use Rattle.play_reads.proofs.WorldNets.StepLemmas.{changed-over}
+use Rattle.play_clients.specs.WorldOrders.Open.{OpenEnds}
+use Rattle.play_clients.proofs.WorldOrders.OpenFrame.{IsOpenMirror, below-over, mirror-over, LowerOpens}
+use Rattle.play_clients.proofs.WorldOrders.OpenLowers.{lower-down-opens, lower-ready-opens, mirror-up-opens}
+use Rattle.play_reads.proofs.WorldSettling.PrimaryAsides.{Aside, lower-down-aside, lower-ready-aside, mirror-up-aside}
+use Rattle.play_reads.proofs.WorldSettling.ReaderNodeAsides.{Stays, lower-down-stays, lower-ready-stays, mirror-up-stays}
 use Rattle.play_model.specs.declared.asks.ReadAsk.{ReadAsk}
 use Rattle.play_model.specs.declared.dues.Due.{Due}
 use Rattle.play_model.specs.declared.dues.Due.TheVariants as due
@@ -54,9 +54,9 @@ use Rattle.play_model.specs.Asks.{request_of, asking_node}
 use Rattle.play_model.specs.Recoveries.{all_answered, begins_so, goes_on, leads_events, primary_events}
 use Rattle.play_model.specs.Recoveries as model
 use Rattle.play_model.specs.Dues.{Queues, is_open, is_open_above, is_due, due_events, own_events, action_of, acting, asking}
-use Rattle.play_nodes.specs.Dues.{IsOrderly}
-use Rattle.play_nodes.specs.Showing.{has_events}
-use Rattle.play_primaries.specs.Dues.{ArePlaced}
+use Rattle.play_reads.specs.PlayNodes.Dues.{IsOrderly}
+use Rattle.play_reads.specs.PlayNodes.Showing.{has_events}
+use Rattle.play_reads.specs.PlayPrimaries.Dues.{ArePlaced}
 use Rattle.play_dues.specs.Spent.{is_given_up, is_spent}
 use Rattle.play_dues.proofs.GoneLaws.{true_false, IsDeaf, own_deaf, heard_deaf, Gone, gone_from, gone_false, gone_in, never_told, deaf_gone, deaf_from}
 

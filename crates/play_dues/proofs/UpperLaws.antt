@@ -14,19 +14,19 @@ use Rattle.world.specs.Enabled.{can_up, takes_above}
 use Rattle.world.specs.Parts as parts
 use Rattle.world.specs.Parts.{by_writer, by_member, by_reader, by_primary}
 use Rattle.world.specs.Worlds.{World}
-use Rattle.world_laws.proofs.FactTables.{and-left, and-right}
+use Rattle.play_model.proofs.WorldLaws.FactTables.{and-left, and-right}
 use Rattle.play_model.specs.declared.dues.Due.TheVariants as due
 use Rattle.play_model.specs.Dues.{Queues, is_due, is_open_above}
 use Rattle.play_clients.specs.declared.clients.Client.{Client}
-use Rattle.play_nodes.specs.declared.connections.Connection.{Connection}
-use Rattle.play_nodes.specs.declared.connections.Upper.{Upper}
-use Rattle.play_nodes.specs.declared.connections.Upper.TheVariants as upper
-use Rattle.play_nodes.specs.declared.nodes.Nodes.{Nodes}
-use Rattle.play_nodes.specs.Dues.{is_elsewhere, TellsElsewhere, TellsUp}
-use Rattle.play_nodes.specs.Showing.{UpperShows, is_pipeline, NodesStand}
-use Rattle.play_nodes.proofs.JoinNodes.{passes_at, place_there}
-use Rattle.play_nodes.proofs.PlaceLaws.{element_within, same_some}
-use Rattle.play_nodes.proofs.Tables.{element}
+use Rattle.play_reads.specs.PlayNodes.Connection.{Connection}
+use Rattle.play_reads.specs.PlayNodes.Upper.{Upper}
+use Rattle.play_reads.specs.PlayNodes.Upper.TheVariants as upper
+use Rattle.play_reads.specs.PlayNodes.Nodes.{Nodes}
+use Rattle.play_reads.specs.PlayNodes.Dues.{is_elsewhere, TellsElsewhere, TellsUp}
+use Rattle.play_reads.specs.PlayNodes.Showing.{UpperShows, is_pipeline, NodesStand}
+use Rattle.play_reads.proofs.PlayNodes.JoinNodes.{passes_at, place_there}
+use Rattle.play_reads.proofs.PlayNodes.PlaceLaws.{element_within, same_some}
+use Rattle.play_reads.proofs.PlayNodes.Tables.{element}
 use Rattle.play_reads.specs.declared.reads.Reads.{Reads}
 use Rattle.play_recoveries.specs.declared.recoveries.Recoveries.{Recoveries}
 use Rattle.play_reads.specs.Dues as of_reads

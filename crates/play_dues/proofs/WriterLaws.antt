@@ -8,21 +8,21 @@ use Rattle.hd_base.specs.declared.links.LinkIn as link_in
 use Rattle.hd_base.specs.declared.links.LinkOut as link_out
 use Rattle.hd_base.specs.declared.numbers.ConnId.{ConnId}
 use Rattle.hd_base.specs.declared.roads.Roads as roads
-use Rattle.pipe_recovery.specs.declared.links.Link.{Link}
+use Rattle.play_clients.specs.PipeRecovery.Link.{Link}
 use Rattle.road_traffic.specs.Showing.{Net, RoadsShow, ShowsStanding}
 use Rattle.world.specs.Parts as parts
 use Rattle.world.specs.Worlds.{World}
 use Rattle.world.specs.Connections.{next_up, is_conn}
 use Rattle.world.specs.Enabled.{takes_above}
-use Rattle.world_nets.specs.Nets.{IsEndOf}
-use Rattle.world_nets.specs.Rows.{rows_of}
+use Rattle.play_reads.specs.WorldNets.Nets.{IsEndOf}
+use Rattle.play_reads.specs.WorldNets.Rows.{rows_of}
 use Rattle.play_model.specs.Dues.{is_open_above}
-use Rattle.client_events.specs.declared.pipes.Pipe.{Pipe}
-use Rattle.client_events.specs.declared.pipes.Pipe.TheVariants as pipe
-use Rattle.client_events.specs.Showing.{LinkShows, PipeShows}
+use Rattle.play_clients.specs.ClientEvents.Pipe.{Pipe}
+use Rattle.play_clients.specs.ClientEvents.Pipe.TheVariants as pipe
+use Rattle.play_clients.specs.ClientEvents.Showing.{LinkShows, PipeShows}
 use Rattle.play_clients.specs.declared.clients.Client.{Client}
-use Rattle.play_nodes.specs.Dues.{stands}
-use Rattle.play_nodes.proofs.DueNodes.{row_standing, stands_as, hears_next}
+use Rattle.play_reads.specs.PlayNodes.Dues.{stands}
+use Rattle.play_reads.proofs.PlayNodes.DueNodes.{row_standing, stands_as, hears_next}
 use Rattle.play_dues.specs.Writers.{conn_of, TellsWriter}
 
 -- what is due of a writer of which no answer waits

@@ -10,11 +10,11 @@ use Rattle.play_model.specs.Draws.{drawn, draw, happened}
 use Rattle.play_model.specs.Dues.{dues}
 use Rattle.play_model.specs.States.{PlayState}
 use Rattle.play_clients.specs.declared.clients.Client.{Client}
-use Rattle.play_nodes.specs.declared.nodes.Nodes.{Nodes}
+use Rattle.play_reads.specs.PlayNodes.Nodes.{Nodes}
 use Rattle.play_reads.specs.declared.reads.Reads.{Reads}
 use Rattle.play_recoveries.specs.declared.recoveries.Recoveries.{Recoveries}
 use Rattle.play_recoveries.specs.Places.{recoveries_of}
-use Rattle.play_readers.specs.Asks.{asks_of}
+use Rattle.play_reads.specs.PlayReaders.Asks.{asks_of}
 use Rattle.play_dues.specs.declared.live.LiveConns.{LiveConns}
 use Rattle.play_dues.specs.Listing.{all_dues}
 use Rattle.play_dues.specs.Live.{IsCurrent}

@@ -12,3 +12,13 @@ pub mod Spending
 pub mod Live
 pub mod Listing
 pub mod Drawing
+pub mod ClientEvents
+pub mod PipeRecovery
+pub mod PlayClients
+pub mod PlayPrimaries
+pub mod PlayReaders
+pub mod PlayReads
+pub mod PlayRecoveries
+pub mod PlayServers
+pub mod ReaderEvents
+pub mod RecoveryEvents

@@ -13,10 +13,10 @@ use Rattle.play_model.specs.declared.dues.Due.TheVariants as due
 use Rattle.play_model.specs.Dues.{Queues, own_dues, reader_dues, primary_dues, conn_dues, upto, is_due, dues}
 use Rattle.play_model.specs.States.{PlayState, world_of}
 use Rattle.play_clients.specs.declared.clients.Client.{Client}
-use Rattle.play_nodes.specs.declared.nodes.Nodes.{Nodes}
+use Rattle.play_reads.specs.PlayNodes.Nodes.{Nodes}
 use Rattle.play_reads.specs.declared.reads.Reads.{Reads}
 use Rattle.play_recoveries.specs.declared.recoveries.Recoveries.{Recoveries}
-use Rattle.play_readers.specs.Asks.{asks_of}
+use Rattle.play_reads.specs.PlayReaders.Asks.{asks_of}
 use Rattle.play_reads.specs.Places.{HasAsk}
 use Rattle.play_recoveries.specs.Places.{recoveries_of, HasRecovery}
 use Rattle.play_clients.specs.Blocks.{blocks_of}

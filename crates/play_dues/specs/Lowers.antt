@@ -9,9 +9,9 @@ use Rattle.world.specs.Worlds.{World}
 use Rattle.play_model.specs.declared.dues.Due.TheVariants as due
 use Rattle.play_model.specs.Dues.{Queues, is_due}
 use Rattle.play_clients.specs.declared.clients.Client.{Client}
-use Rattle.play_nodes.specs.declared.nodes.Nodes.{Nodes}
-use Rattle.play_nodes.specs.Dues.{IsOrderly}
-use Rattle.play_nodes.specs.Showing.{NodesShow}
+use Rattle.play_reads.specs.PlayNodes.Nodes.{Nodes}
+use Rattle.play_reads.specs.PlayNodes.Dues.{IsOrderly}
+use Rattle.play_reads.specs.PlayNodes.Showing.{NodesShow}
 use Rattle.play_reads.specs.declared.reads.Reads.{Reads}
 use Rattle.play_reads.specs.Showing.{ReadsShow}
 use Rattle.play_recoveries.specs.declared.recoveries.Recoveries.{Recoveries}

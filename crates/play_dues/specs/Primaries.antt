@@ -9,8 +9,8 @@ use Rattle.world.specs.Worlds.{World}
 use Rattle.play_model.specs.declared.dues.Due.{Due}
 use Rattle.play_model.specs.declared.dues.Due.TheVariants as due
 use Rattle.play_model.specs.Dues.{Queues, when, primary_dues}
-use Rattle.play_primaries.specs.declared.clients.PrimaryClient.{PrimaryClient}
-use Rattle.play_primaries.specs.Clients.{can_act}
+use Rattle.play_reads.specs.PlayPrimaries.PrimaryClient.{PrimaryClient}
+use Rattle.play_reads.specs.PlayPrimaries.Clients.{can_act}
 use Rattle.play_recoveries.specs.declared.recoveries.Recoveries.{Recoveries}
 use Rattle.play_recoveries.specs.Places.{recoveries_of}
 use Rattle.play_recoveries.specs.Showing.{RecoveriesShow}

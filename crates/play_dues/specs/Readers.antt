@@ -9,10 +9,10 @@ use Rattle.world.specs.Worlds.{World}
 use Rattle.play_model.specs.declared.dues.Due.{Due}
 use Rattle.play_model.specs.declared.dues.Due.TheVariants as due
 use Rattle.play_model.specs.Dues.{Queues, when, reader_dues}
-use Rattle.play_readers.specs.declared.clients.ReadClient.{ReadClient}
-use Rattle.play_readers.specs.Clients.{is_new}
+use Rattle.play_reads.specs.PlayReaders.ReadClient.{ReadClient}
+use Rattle.play_reads.specs.PlayReaders.Clients.{is_new}
 use Rattle.play_reads.specs.declared.reads.Reads.{Reads}
-use Rattle.play_readers.specs.Asks.{asks_of}
+use Rattle.play_reads.specs.PlayReaders.Asks.{asks_of}
 use Rattle.play_reads.specs.Showing.{ReadsShow}
 
 -- the own steps that are due, in the order of the clients

@@ -3,18 +3,18 @@ use Rattle.std.specs.Prelude.{◌≡◌, ℕ, List, slice_get, Some}
 use Rattle.hd_base.specs.declared.links.LinkIn as link_in
 use Rattle.hd_base.specs.declared.links.LinkOut as link_out
 use Rattle.hd_base.specs.declared.roads.Roads as roads
-use Rattle.reader_events.specs.Orders.{ReadersTakeInOrder}
+use Rattle.play_reads.specs.ReaderEvents.Orders.{ReadersTakeInOrder}
 use Rattle.road_traffic.specs.Showing.{Net}
 use Rattle.world.specs.Worlds.{World}
 use Rattle.play_model.specs.Dues.{Queues}
 use Rattle.play_clients.specs.declared.clients.Client.{Client}
 use Rattle.play_clients.specs.Clients.{ClientShows}
-use Rattle.play_nodes.specs.declared.nodes.Nodes.{Nodes}
-use Rattle.play_nodes.specs.Dues.{IsOrderly}
-use Rattle.play_nodes.specs.Showing.{NodesStand}
+use Rattle.play_reads.specs.PlayNodes.Nodes.{Nodes}
+use Rattle.play_reads.specs.PlayNodes.Dues.{IsOrderly}
+use Rattle.play_reads.specs.PlayNodes.Showing.{NodesStand}
 use Rattle.play_reads.specs.declared.reads.Reads.{Reads}
 use Rattle.play_recoveries.specs.declared.recoveries.Recoveries.{Recoveries}
-use Rattle.play_primaries.specs.Dues.{ArePlaced}
+use Rattle.play_reads.specs.PlayPrimaries.Dues.{ArePlaced}
 use Rattle.play_reads.specs.Showing.{ReadsShow}
 use Rattle.play_recoveries.specs.Showing.{RecoveriesShow}
 

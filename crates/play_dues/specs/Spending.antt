@@ -7,16 +7,16 @@ use Rattle.hd_base.specs.declared.numbers.ConnId.{ConnId}
 use Rattle.road_traffic.specs.Showing.{Net}
 use Rattle.world.specs.Worlds.{World}
 use Rattle.world.specs.Connections.{is_conn}
-use Rattle.world_laws.specs.Placing.{Placed}
+use Rattle.play_model.specs.WorldLaws.Placing.{Placed}
 use Rattle.play_clients.specs.declared.clients.Client.{Client}
 use Rattle.play_clients.specs.Clients.{ClientShows}
-use Rattle.play_nodes.specs.declared.connections.Lower.{Lower}
-use Rattle.play_nodes.specs.declared.connections.Lower.TheVariants as lower
-use Rattle.play_nodes.specs.declared.nodes.Nodes.{Nodes}
-use Rattle.play_nodes.specs.Showing.{has_events, NodesShow}
+use Rattle.play_reads.specs.PlayNodes.Lower.{Lower}
+use Rattle.play_reads.specs.PlayNodes.Lower.TheVariants as lower
+use Rattle.play_reads.specs.PlayNodes.Nodes.{Nodes}
+use Rattle.play_reads.specs.PlayNodes.Showing.{has_events, NodesShow}
 use Rattle.play_reads.specs.declared.reads.Reads.{Reads}
 use Rattle.play_recoveries.specs.declared.recoveries.Recoveries.{Recoveries}
-use Rattle.play_primaries.specs.Dues.{ArePlaced}
+use Rattle.play_reads.specs.PlayPrimaries.Dues.{ArePlaced}
 use Rattle.play_reads.specs.Showing.{ReadsShow}
 use Rattle.play_recoveries.specs.Showing.{RecoveriesShow}
 use Rattle.play_dues.specs.Showing.{HasClient}

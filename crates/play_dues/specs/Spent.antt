@@ -5,12 +5,12 @@ use Rattle.world.specs.Worlds.{World}
 use Rattle.world.specs.Connections.{is_conn}
 use Rattle.world.specs.Enabled.{leads_from, reads_from}
 use Rattle.world.specs.Events.{run}
-use Rattle.world_nets.specs.Nets.{is_over}
+use Rattle.play_reads.specs.WorldNets.Nets.{is_over}
 use Rattle.play_model.specs.declared.dues.Due.{Due}
 use Rattle.play_model.specs.Dues.{Queues, is_due, conn_dues, due_events}
-use Rattle.play_nodes.specs.Dues.{IsOrderly}
-use Rattle.play_nodes.specs.Showing.{has_events}
-use Rattle.play_primaries.specs.Dues.{ArePlaced}
+use Rattle.play_reads.specs.PlayNodes.Dues.{IsOrderly}
+use Rattle.play_reads.specs.PlayNodes.Showing.{has_events}
+use Rattle.play_reads.specs.PlayPrimaries.Dues.{ArePlaced}
 
 -- The upper end takes nothing any more: the member that dialled has no further events, the writer that did has no
 -- connection or another one, the reader that did takes nothing from it, or the primary that did takes nothing from it,

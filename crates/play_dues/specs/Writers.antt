@@ -7,12 +7,12 @@ use Rattle.hd_base.specs.declared.roads.Roads as roads
 use Rattle.road_traffic.specs.Showing.{Net}
 use Rattle.world.specs.Parts.{by_writer}
 use Rattle.world.specs.Worlds.{World}
-use Rattle.world_orders.specs.Open.{OpenEnds}
+use Rattle.play_clients.specs.WorldOrders.Open.{OpenEnds}
 use Rattle.play_model.specs.declared.dues.Due.TheVariants as due
 use Rattle.play_model.specs.Dues.{Queues, is_due}
-use Rattle.member_events.specs.Showing.{ShowsWorld}
-use Rattle.client_events.specs.declared.pipes.Pipe.{Pipe}
-use Rattle.client_events.specs.declared.pipes.Pipe.TheVariants as pipe
+use Rattle.play_clients.specs.MemberEvents.Showing.{ShowsWorld}
+use Rattle.play_clients.specs.ClientEvents.Pipe.{Pipe}
+use Rattle.play_clients.specs.ClientEvents.Pipe.TheVariants as pipe
 use Rattle.play_clients.specs.declared.clients.Client.{Client}
 use Rattle.play_clients.specs.Clients.{ClientShows}
 

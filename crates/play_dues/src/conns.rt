@@ -1,7 +1,7 @@
 //! Which events of a connection are due.
 
 ghost use Rattle.std.specs.Prelude.{◌≡◌, ◌≤◌, length, option_map, slice_get};
-ghost use Rattle.member_events.specs.Roads.{RoadsPass};
+ghost use Rattle.play_clients.specs.MemberEvents.Roads.{RoadsPass};
 ghost use Rattle.play_dues.specs.Conns.{listed, writer_above, TellsClient, TellsUpper, TellsConn};
 
 use crate::lowers::{lower_acts, lower_takes};
@@ -10,8 +10,7 @@ use crate::writers::can_up;
 use hd_base::{BlockId, ConnId, Files, LinkIn, LinkOut, Roads};
 use play_clients::Client;
 use play_model::Due;
-use play_nodes::{Nodes, Upper};
-use play_reads::Reads;
+use play_reads::{Nodes, Reads, Upper};
 use play_recoveries::{Recoveries, primary_of};
 
 /// Which events of a connection are due.

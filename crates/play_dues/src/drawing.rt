@@ -1,6 +1,6 @@
 //! The draw of what happens next.
 
-ghost use Rattle.member_events.specs.Roads.{RoadsPass};
+ghost use Rattle.play_clients.specs.MemberEvents.Roads.{RoadsPass};
 ghost use Rattle.play_dues.specs.Drawing.{DrawsDue, PlaysAreDrawn, PlaysEnd};
 
 use crate::listing::{count_dues, pick_dues};
@@ -8,8 +8,7 @@ use crate::live::LiveConns;
 use hd_base::{Files, LinkIn, LinkOut, Roads};
 use play_clients::Client;
 use play_model::Due;
-use play_nodes::Nodes;
-use play_reads::Reads;
+use play_reads::{Nodes, Reads};
 use play_recoveries::Recoveries;
 use rand_core::utils::NextWord;
 use rand_pcg::Pcg32;

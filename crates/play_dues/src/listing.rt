@@ -1,7 +1,7 @@
 //! What is due in a play, counted and picked by number.
 
 ghost use Rattle.std.specs.Prelude.{◌≡◌, false};
-ghost use Rattle.member_events.specs.Roads.{RoadsPass};
+ghost use Rattle.play_clients.specs.MemberEvents.Roads.{RoadsPass};
 ghost use Rattle.play_dues.specs.Listing.{DuesAreListed, TellsDue, IsAlone, CountsDues, PicksDue};
 
 use crate::conns::{dues_of, upper_takes};
@@ -13,8 +13,7 @@ use crate::steps::{count_steps, pick_step};
 use hd_base::{ConnId, Files, LinkIn, LinkOut, Roads};
 use play_clients::Client;
 use play_model::Due;
-use play_nodes::Nodes;
-use play_reads::Reads;
+use play_reads::{Nodes, Reads};
 use play_recoveries::Recoveries;
 
 /// Whether this is due. An own step of a block, of a reader or of a primary that has no client isn't.

@@ -14,8 +14,7 @@ ghost use Rattle.play_dues.specs.Live.{
 use crate::spending::is_spent;
 use hd_base::{ConnId, Files, LinkIn, LinkOut};
 use play_clients::Client;
-use play_nodes::Nodes;
-use play_reads::Reads;
+use play_reads::{Nodes, Reads};
 use play_recoveries::Recoveries;
 use std::alloc::{AllocError, Global};
 

@@ -2,12 +2,11 @@
 //! among the nodes, that of a connection that a reader dialled among the reads, and that of one that a primary dialled
 //! among the recoveries.
 
-ghost use Rattle.member_events.specs.Roads.{RoadsPass};
+ghost use Rattle.play_clients.specs.MemberEvents.Roads.{RoadsPass};
 ghost use Rattle.play_dues.specs.Lowers.{TellsLower, TellsActs};
 
 use hd_base::{ConnId, Files, LinkIn, LinkOut, Roads};
-use play_nodes::Nodes;
-use play_reads::Reads;
+use play_reads::{Nodes, Reads};
 use play_recoveries::{Recoveries, none_is_ready, primary_of};
 
 /// Whether the lower end of a connection takes what stands next.

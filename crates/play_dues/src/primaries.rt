@@ -10,7 +10,7 @@ ghost use Rattle.play_dues.specs.Primaries.{
 
 use hd_base::{LinkIn, LinkOut};
 use play_model::Due;
-use play_primaries::PrimaryClient;
+use play_reads::PrimaryClient;
 
 /// The place of the client of a primary, if it has one.
 pub fn primary_client_of<I: LinkIn, O: LinkOut>(

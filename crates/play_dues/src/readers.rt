@@ -10,7 +10,7 @@ ghost use Rattle.play_dues.specs.Readers.{
 
 use hd_base::{LinkIn, LinkOut};
 use play_model::Due;
-use play_readers::ReadClient;
+use play_reads::ReadClient;
 
 /// The place of the client of a reader, if it has one.
 pub fn read_client_of<I: LinkIn, O: LinkOut>(

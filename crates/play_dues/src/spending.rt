@@ -9,8 +9,7 @@ use crate::places::client_of;
 use crate::writers::has_conn;
 use hd_base::{BlockId, ConnId, Files, LinkIn, LinkOut};
 use play_clients::Client;
-use play_nodes::{Lower, Nodes, Upper};
-use play_reads::Reads;
+use play_reads::{Lower, Nodes, Reads, Upper};
 use play_recoveries::{Recoveries, primary_of};
 
 /// Whether nothing will ever be due of a connection: its lower end has no further events, and whoever dialled it takes

@@ -2,12 +2,11 @@
 
 ghost use Rattle.std.specs.Prelude.{◌≡◌};
 ghost use Rattle.world.specs.Connections.{is_conn};
-ghost use Rattle.member_events.specs.Roads.{RoadsPass};
+ghost use Rattle.play_clients.specs.MemberEvents.Roads.{RoadsPass};
 ghost use Rattle.play_dues.specs.Writers.{conn_of, TellsWriter};
 
-use client_events::Pipe;
 use hd_base::{ConnId, LinkIn, LinkOut, Roads, Standing};
-use play_clients::Client;
+use play_clients::{Client, Pipe};
 use road_traffic::standing;
 
 /// Whether the writer of a client takes what stands next on a connection.

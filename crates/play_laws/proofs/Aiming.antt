@@ -40,11 +40,11 @@ use Rattle.world.specs.Clients.{did, did_step, dialled_change, dialling, rest_in
 use Rattle.world.specs.Primaries.{office_event}
 use Rattle.world.specs.Restarts.{restart}
 use Rattle.world.specs.Events.{changed, own_change, down_as, down_event, ready_event, unless_fails, upper_up, up_as, up_event, fault_event, lost, stop, where_so, outcome, after_event, happens, run}
-use Rattle.world_laws.proofs.AllCarried.{next-sent, at-start}
-use Rattle.world_laws.proofs.AllRecorded.{Reached, reached-next}
-use Rattle.world_laws.proofs.ByteFrame.{Each, each-one, each-tail, dial-place, dial-none}
-use Rattle.world_laws.proofs.FactTables.{when-each, and-left}
-use Rattle.world_laws.proofs.PlacedLaws.{all-placed}
+use Rattle.play_model.proofs.WorldLaws.AllCarried.{next-sent, at-start}
+use Rattle.play_model.proofs.WorldLaws.AllRecorded.{Reached, reached-next}
+use Rattle.play_model.proofs.WorldLaws.ByteFrame.{Each, each-one, each-tail, dial-place, dial-none}
+use Rattle.play_model.proofs.WorldLaws.FactTables.{when-each, and-left}
+use Rattle.play_model.proofs.WorldLaws.PlacedLaws.{all-placed}
 use Rattle.world_orders.specs.Orders.{comes_down, purpose_of, Purpose, pipeline, reading, recovering, is_first, IsBelow, Ordered}
 use Rattle.world_orders.proofs.AllOrdered.{all-ordered}
 use Rattle.play_laws.specs.Members.{IsRef, AreRefs, AllName, IsNode, TargetsAre}

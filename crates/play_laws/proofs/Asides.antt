@@ -8,9 +8,9 @@ use Rattle.hd_base.specs.declared.numbers.Stamp.{Stamp}
 use Rattle.op_headers.specs.declared.ops.Op.{Op}
 use Rattle.op_headers.specs.declared.ops.ReadOp.{ReadOp}
 use Rattle.name_core.specs.declared.calls.OfficeAnswer.TheVariants as office
-use Rattle.read_core.specs.Readings.{ReadTaken, take_from}
-use Rattle.read_core.specs.declared.reading.ReadTurn.{ReadTurn}
-use Rattle.read_core.specs.declared.reading.ReadTurn.TheVariants as turn
+use Rattle.world.specs.ReadCore.Readings.{ReadTaken, take_from}
+use Rattle.world.specs.ReadCore.ReadTurn.{ReadTurn}
+use Rattle.world.specs.ReadCore.ReadTurn.TheVariants as turn
 use Rattle.recovery_core.specs.declared.primary.OwnStep.{OwnStep}
 use Rattle.recovery_core.specs.declared.primary.OwnStep.TheVariants as own
 use Rattle.recovery_core.specs.declared.standings.Standing.{Standing}
@@ -32,7 +32,7 @@ use Rattle.world.specs.Worlds.{World, Change}
 use Rattle.world.specs.Connections.{Next, sent_on, is_alive, is_conn, place_of}
 use Rattle.world.specs.Clients.{are_members, did, dialled_change, dialling, rest_in, is_formed, ruled, is_empty, takes_command, writer_step, own_writer, writer_up, reader_dials, own_reader_as, own_reader, from_node_of, reader_turn, reader_up_as, reader_up}
 use Rattle.world.specs.Primaries.{begins_as, begins_at, own_recover, updates_on, leads_step, commits_step, leads_told, own_primary_as, own_primary, listens, hears_change, primary_up_as, primary_up, writer_asks, primary_commits, primary_asks, office_event}
-use Rattle.world_laws.proofs.FactTables.{if-each, when-each, and-right}
+use Rattle.play_model.proofs.WorldLaws.FactTables.{if-each, when-each, and-right}
 use Rattle.play_laws.proofs.Hushing.{IsAt, Silent, Uppers, Hush, Mute, apart}
 
 reader-apart : (b i : ℕ) → by_writer b ≡ by_reader i → ⊥

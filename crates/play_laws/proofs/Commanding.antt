@@ -30,10 +30,10 @@ use Rattle.world.specs.Parts.{Told, Writing}
 use Rattle.world.specs.Worlds.{World, Change, apply, put, start}
 use Rattle.world.specs.Clients.{did, did_step, is_formed, ruled, command_bytes, is_empty, takes_given, takes_command, writer_step, own_writer}
 use Rattle.world.specs.Events.{changed, outcome, after_event, happens, is_enabled, run}
-use Rattle.world_laws.specs.Stamping.{known_heard}
-use Rattle.world_laws.proofs.AllRecorded.{all-recorded}
-use Rattle.world_laws.proofs.StampGivens.{put-here}
-use Rattle.world_laws.proofs.FactTables.{and-left}
+use Rattle.play_model.specs.WorldLaws.Stamping.{known_heard}
+use Rattle.play_model.proofs.WorldLaws.AllRecorded.{all-recorded}
+use Rattle.play_model.proofs.WorldLaws.StampGivens.{put-here}
+use Rattle.play_model.proofs.WorldLaws.FactTables.{and-left}
 use Rattle.play_laws.specs.Taking.{MayTake, IsTaken, CommandsTaken, CreatesFirst, UnmadeAreFresh, taking}
 use Rattle.play_laws.specs.Writers.{is_settled}
 use Rattle.play_laws.proofs.Standing.{is_close, is_live, shut-closes}

@@ -24,10 +24,10 @@ use Rattle.member_core.specs.declared.turns.Turn.{Turn}
 use Rattle.member_core.specs.Members.{MemberState, down_turn, up_turn, hears}
 use Rattle.member_core.specs.Requests.{request_event, request_to, mirror_request}
 use Rattle.member_core.specs.Steps.{Setup, oldest_at, ready_turn_at, request_step, faulted_request}
-use Rattle.read_core.specs.declared.reading.ReadTurn.{ReadTurn}
-use Rattle.read_core.specs.declared.reading.ReadTurn.TheVariants as turn
-use Rattle.read_core.specs.Readings.{ReadTaken, take_from}
-use Rattle.read_core.specs.Servings.{ServingState, next_call, piece_at, read_at, read_event}
+use Rattle.world.specs.ReadCore.ReadTurn.{ReadTurn}
+use Rattle.world.specs.ReadCore.ReadTurn.TheVariants as turn
+use Rattle.world.specs.ReadCore.Readings.{ReadTaken, take_from}
+use Rattle.world.specs.ReadCore.Servings.{ServingState, next_call, piece_at, read_at, read_event}
 use Rattle.recovery_core.specs.declared.members.RecoveryReply.{RecoveryReply}
 use Rattle.recovery_core.specs.declared.primary.OwnStep.{OwnStep}
 use Rattle.recovery_core.specs.declared.primary.OwnStep.TheVariants as own
@@ -45,8 +45,8 @@ use Rattle.world.specs.Connections.{Next, message, the_end, is_alive, place_of}
 use Rattle.world.specs.Nodes.{replica_at, node_of, block_of, broke_at, is_asked, above_of, below_of, closing, unless_failing, failing_turn, turn_change, takes_next, pending_at, member_down, member_up, ready_change, mirror_dial, mirror_node, dials_of, member_dials, setup_change, failing_write, write_request, read_change, failing_read, read_request, piece_as, serve_change, failing_recovery, recovery_request, first_message, next_recovery, lower_down, lower_ready, mirror_up}
 use Rattle.world.specs.Clients.{are_members, reader_dials, own_reader_as, own_reader, from_node_of, reader_turn, reader_up_as, reader_up}
 use Rattle.world.specs.Primaries.{dials_answered, primary_dials, begins_as, begins_at, own_recover, leads_step, commits_step, leads_told, own_primary_as, own_primary, listens, hears_change, primary_up_as, primary_up, writer_asks, primary_commits, primary_asks, office_event}
-use Rattle.world_laws.proofs.ByteFrame.{Each, each-nil, each-one, each-cons}
-use Rattle.world_laws.proofs.FactTables.{if-each, when-each}
+use Rattle.play_model.proofs.WorldLaws.ByteFrame.{Each, each-nil, each-one, each-cons}
+use Rattle.play_model.proofs.WorldLaws.FactTables.{if-each, when-each}
 use Rattle.play_laws.specs.Members.{AreRefs}
 
 module _ (Of : NodeId → Type 0) where

@@ -35,12 +35,12 @@ use Rattle.world.specs.Clients.{own_writer, writer_up, own_reader, reader_up}
 use Rattle.world.specs.Primaries.{own_recover, own_primary, primary_up, writer_asks, primary_commits, primary_asks, office_event}
 use Rattle.world.specs.Restarts.{found_in, replica_found, restarted, restart}
 use Rattle.world.specs.Events.{changed, own_change, down_as, down_event, ready_event, unless_fails, upper_up, up_as, up_event, fault_event, lost, stop, where_so, outcome, after_event, happens, run}
-use Rattle.world_laws.specs.Placing.{IsUpper}
-use Rattle.world_laws.proofs.AllCarried.{next-sent, at-start}
-use Rattle.world_laws.proofs.AllRecorded.{Reached, reached-next}
-use Rattle.world_laws.proofs.FactTables.{if-each, put-each, when-each, and-left}
-use Rattle.world_laws.proofs.PlacedLaws.{all-placed}
-use Rattle.world_laws.proofs.SessionAsides.{Aside, lower-down-aside, lower-ready-aside, mirror-up-aside, own-reader-aside, reader-up-aside, own-recover-aside, own-primary-aside, primary-up-aside}
+use Rattle.play_model.specs.WorldLaws.Placing.{IsUpper}
+use Rattle.play_model.proofs.WorldLaws.AllCarried.{next-sent, at-start}
+use Rattle.play_model.proofs.WorldLaws.AllRecorded.{Reached, reached-next}
+use Rattle.play_model.proofs.WorldLaws.FactTables.{if-each, put-each, when-each, and-left}
+use Rattle.play_model.proofs.WorldLaws.PlacedLaws.{all-placed}
+use Rattle.play_model.proofs.WorldLaws.SessionAsides.{Aside, lower-down-aside, lower-ready-aside, mirror-up-aside, own-reader-aside, reader-up-aside, own-recover-aside, own-primary-aside, primary-up-aside}
 use Rattle.world_orders.specs.Orders.{purpose_of, pipeline, HasTaken, IsBelow, IsMirror, MirrorIs, IsWriterConn, ReaderIs, PrimaryIs, Ordered}
 use Rattle.world_orders.proofs.AllOrdered.{all-ordered}
 use Rattle.world_orders.proofs.Lists.{dialled-before}

@@ -2,7 +2,7 @@
 use Rattle.std.proofs.Common.{◌≡◌, ℕ, ◌<◌, ◌≤◌, Bool, true, false, List, [], ◌++◌, length, slice_get, Some, None, append-nil, refl, sym, ◌∙◌, subst, arith, eqb-true}
 use Rattle.std.specs.Prelude.{◌==◌, if◌then◌else◌}
 use Rattle.world.specs.Parts.{Message, by_writer, by_member, by_reader, by_primary, FullMember, Lower, writes, reads, Leading, leads}
-use Rattle.read_core.specs.Readings.{ReadingState}
+use Rattle.world.specs.ReadCore.Readings.{ReadingState}
 use Rattle.world.specs.Worlds.{World, Change}
 use Rattle.world.specs.Connections.{sent_on}
 use Rattle.world_orders.specs.Orders.{purpose_of, pipeline}

@@ -22,7 +22,7 @@ use Rattle.world.specs.Connections.{Next, next_up, up_taken, is_conn}
 use Rattle.world.specs.Clients.{did, dialled_change, dialling, rest_in, own_writer, writer_step, writer_up}
 use Rattle.world.specs.Primaries.{writer_asks, writer_asks_office}
 use Rattle.world.specs.Events.{changed, upper_up, up_as, outcome, after_event, happens, run}
-use Rattle.world_laws.proofs.FactTables.{put-each, when-each}
+use Rattle.play_model.proofs.WorldLaws.FactTables.{put-each, when-each}
 use Rattle.play_model.specs.Dues.{asking, acting, own_events, action_of}
 use Rattle.play_laws.specs.Intakes.{is_wait, intake_of, OwnStepsKeepIntakes, HearingKeepsIntakes}
 use Rattle.play_laws.proofs.Queues.{Still, own-still, hears-still, dialled-still, granted-still}

@@ -17,3 +17,4 @@ pub mod Untold
 pub mod Intakes
 pub mod Stamps
 pub mod Pipelined
+pub mod WorldAcks

@@ -33,7 +33,7 @@ use Rattle.member_core.specs.declared.turns.Turn.{Turn}
 use Rattle.member_core.specs.Members.{MemberState, is_waiting, down_turn, up_turn, hears, set_up, set_up_at, mirror_for}
 use Rattle.member_core.specs.Requests.{check, request_event, setup_event, setup_with, named_setup, named_rule, rule_for}
 use Rattle.member_core.specs.Steps.{Step, Setup, step, faulted_step, outcome_of, oldest_at, ready_turn_at, request_step, request_at, booked_request, refused_by, faulted_request}
-use Rattle.read_core.specs.Servings.{ServingState, accepting, refusing, faulted_read, faulted_piece, next_call, piece_at, read_at, read_event}
+use Rattle.world.specs.ReadCore.Servings.{ServingState, accepting, refusing, faulted_read, faulted_piece, next_call, piece_at, read_at, read_event}
 use Rattle.recovery_core.specs.declared.members.RecoveryReply.{RecoveryReply}
 use Rattle.recovery_core.specs.declared.members.RecoveryReply.TheVariants as reply
 use Rattle.recovery_core.specs.Members.{Served, no_recovery, step_event, recovery_event, answer_of, served_as, serve, serve_faulted}
@@ -41,7 +41,7 @@ use Rattle.world.specs.Parts.{Message, request, packet, ack, response, read_stat
 use Rattle.world.specs.Worlds.{World}
 use Rattle.world.specs.Connections.{Next, message, the_end, sent_on, is_alive}
 use Rattle.world.specs.Nodes.{replica_at, node_of, block_of, is_asked, above_of, below_of, closing, unless_failing, sent_up, passed, member_change, failing_turn, turn_change, takes_next, pending_at, member_down, member_up, ready_change, lower_of, setup_change, failing_write, write_request, breaking, read_change, failing_read, read_request, piece_as, serve_change, recovery_change, failing_recovery, recovery_request, first_message, next_recovery, lower_down, lower_ready, mirror_up}
-use Rattle.world_laws.proofs.FactTables.{when-each}
+use Rattle.play_model.proofs.WorldLaws.FactTables.{when-each}
 use Rattle.world_orders.specs.Orders.{purpose_of, pipeline, reading, recovering, IsBelow, is_empty}
 use Rattle.world_settling.specs.Traffic.{entries_by}
 use Rattle.world_settling.proofs.Chains.{settled-conn}

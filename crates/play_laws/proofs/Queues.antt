@@ -33,7 +33,7 @@ use Rattle.writer_core.specs.Transitions.{take_first, free_step_as, failed_first
 use Rattle.world.specs.Parts.{request, packet, ack, response, read_status, recovery_answer, Told}
 use Rattle.world.specs.Connections.{Next, message, the_end}
 use Rattle.world.specs.Clients.{named_member, writer_hears}
-use Rattle.world_laws.proofs.FactTables.{if-each}
+use Rattle.play_model.proofs.WorldLaws.FactTables.{if-each}
 
 -- no command is given and not taken
 abbrev pub Bare : WriterRecord → Type 0

@@ -40,9 +40,9 @@ use Rattle.world.specs.Clients.{writing_as, writer_change, did, did_step, dialle
 use Rattle.world.specs.Primaries.{own_recover, own_primary, primary_up, writer_asks, primary_commits, primary_asks, office_event}
 use Rattle.world.specs.Restarts.{restart}
 use Rattle.world.specs.Events.{changed, own_change, down_as, down_event, ready_event, unless_fails, upper_up, up_as, up_event, fault_event, lost, stop, where_so, outcome, after_event, happens, run}
-use Rattle.world_laws.proofs.ByteFrame.{each-nil}
-use Rattle.world_laws.proofs.FactTables.{put-each, when-each, and-right}
-use Rattle.world_laws.proofs.SessionAsides.{Aside, lower-down-aside, lower-ready-aside, mirror-up-aside, own-reader-aside, reader-up-aside, own-recover-aside, own-primary-aside, primary-up-aside}
+use Rattle.play_model.proofs.WorldLaws.ByteFrame.{each-nil}
+use Rattle.play_model.proofs.WorldLaws.FactTables.{put-each, when-each, and-right}
+use Rattle.play_model.proofs.WorldLaws.SessionAsides.{Aside, lower-down-aside, lower-ready-aside, mirror-up-aside, own-reader-aside, reader-up-aside, own-recover-aside, own-primary-aside, primary-up-aside}
 use Rattle.play_laws.specs.Writers.{Rests, AllRest, is_settled, needs_members}
 use Rattle.play_laws.specs.Members.{Names, EventNames, AllName, IsNode, MembersAre}
 use Rattle.play_laws.proofs.Queues.{own-bare, hears-bare, dialled-bare, granted-bare}

@@ -15,7 +15,7 @@ use Rattle.world.specs.Nodes.{lower_down, lower_ready}
 use Rattle.world.specs.Primaries.{office_event}
 use Rattle.world.specs.Events.{changed, own_change, down_as, down_event, ready_event, upper_up, up_as, up_event, fault_event, lost, stop, where_so, outcome, after_event, happens, run}
 use Rattle.world.specs.Restarts.{restart}
-use Rattle.world_laws.proofs.FactTables.{when-each}
+use Rattle.play_model.proofs.WorldLaws.FactTables.{when-each}
 use Rattle.play_laws.specs.Nodes.{KeepsNodes, AllKeepNodes, NodesRun, AllRun, SameNodes, RunningStays, OnlyNodes, OnlyNodesRun}
 
 module _ (base : World) where

@@ -27,7 +27,7 @@ use Rattle.world.specs.Parts.{Message, Told, Writing}
 use Rattle.world.specs.Worlds.{World, Change}
 use Rattle.world.specs.Connections.{Next, sent_on, is_conn}
 use Rattle.world.specs.Clients.{writing_as, did, did_step, dialled_change, dialling, rest_in, is_formed, ruled, is_empty, takes_command, writer_step, own_writer, writer_hears, writer_up}
-use Rattle.world_laws.proofs.FactTables.{when-each, and-right}
+use Rattle.play_model.proofs.WorldLaws.FactTables.{when-each, and-right}
 use Rattle.play_laws.proofs.Steps.{is_early, Sits, Gets, hears-fits, undialled-fits, own-fits, granted-fits, ruled-gets, none-opens}
 use Rattle.play_laws.proofs.Resting.{Any, Stands, any-names, allowed}
 

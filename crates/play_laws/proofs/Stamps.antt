@@ -29,9 +29,9 @@ use Rattle.world.specs.Nodes.{lower_down, lower_ready}
 use Rattle.world.specs.Primaries.{writer_asks, primary_commits, primary_asks, office_event}
 use Rattle.world.specs.Restarts.{restart}
 use Rattle.world.specs.Events.{changed, own_change, down_as, down_event, ready_event, upper_up, up_as, up_event, fault_event, lost, stop, where_so, outcome, after_event, happens, run}
-use Rattle.world_laws.proofs.Agreements.{Quiet, asides-quiet, own-writer-quiet, upper-quiet}
-use Rattle.world_laws.proofs.FactTables.{when-each}
-use Rattle.world_laws.proofs.SessionAsides.{Aside, lower-down-aside, lower-ready-aside, own-reader-aside, own-recover-aside, own-primary-aside}
+use Rattle.play_model.proofs.WorldLaws.Agreements.{Quiet, asides-quiet, own-writer-quiet, upper-quiet}
+use Rattle.play_model.proofs.WorldLaws.FactTables.{when-each}
+use Rattle.play_model.proofs.WorldLaws.SessionAsides.{Aside, lower-down-aside, lower-ready-aside, own-reader-aside, own-recover-aside, own-primary-aside}
 use Rattle.play_laws.specs.Stamps.{StampsAreFew}
 
 -- the office has given one stamp more at most

@@ -41,8 +41,8 @@ use Rattle.writer_core.specs.Transitions.{given, given_as, taken_as, take_first,
 use Rattle.world.specs.Parts.{request, packet, ack, response, read_status, recovery_answer, Told}
 use Rattle.world.specs.Connections.{Next, message, the_end}
 use Rattle.world.specs.Clients.{named_member, writer_hears, ruled, is_empty}
-use Rattle.world_laws.proofs.ByteFrame.{Each, each-nil, each-cons, each-tail}
-use Rattle.world_laws.proofs.FactTables.{if-each, and-right}
+use Rattle.play_model.proofs.WorldLaws.ByteFrame.{Each, each-nil, each-cons, each-tail}
+use Rattle.play_model.proofs.WorldLaws.FactTables.{if-each, and-right}
 use Rattle.play_laws.specs.Writers.{is_settled, needs_members}
 
 pub some-member : (m : NodeId) (ms : List NodeId) → (m ∷ ms) ≢ []

@@ -25,7 +25,7 @@ use Rattle.member_core.specs.declared.turns.Turn.{Turn}
 use Rattle.member_core.specs.Acks.{is_success, failures, begins_with_bad_sum, is_read, with_own}
 use Rattle.member_core.specs.Members.{MemberState, is_waiting, closed, closed_by, bad_sum, cut_off, refused_turn, settled, fail_turn, named_bad, accept_turn, setup_turn, answered_turn, good_turn, give_up_turn, spoiled_turn, partial_turn, failed_turn, pass_turn, ack_turn, stream_turn, up_at, up_turn, quiet_turn, patient_turn, ready_at}
 use Rattle.member_core.specs.Steps.{step, faulted_step, replica_after, outcome_of, ready_turn_at}
-use Rattle.world_laws.proofs.FactTables.{if-each, when-each}
+use Rattle.play_model.proofs.WorldLaws.FactTables.{if-each, when-each}
 use Rattle.world_settling.specs.Traffic.{entries_by}
 use Rattle.world_settling.proofs.Rows.{IsPacket, other-calm, ack-pays}
 

@@ -25,8 +25,8 @@ use Rattle.world.specs.Nodes.{lower_down, lower_ready, mirror_up}
 use Rattle.world.specs.Clients.{did, dialled_change, dialling, rest_in, is_formed, ruled, command_bytes, is_empty, takes_command, writer_step, writer_up, own_reader, reader_up}
 use Rattle.world.specs.Primaries.{primary_up, writer_asks, writer_asks_office}
 use Rattle.world.specs.Events.{changed, down_as, upper_up, up_as, outcome, after_event, happens, run}
-use Rattle.world_laws.proofs.FactTables.{if-each, put-each, when-each}
-use Rattle.world_laws.proofs.SessionAsides.{Aside, lower-down-aside, lower-ready-aside, mirror-up-aside, own-reader-aside, reader-up-aside, primary-up-aside}
+use Rattle.play_model.proofs.WorldLaws.FactTables.{if-each, put-each, when-each}
+use Rattle.play_model.proofs.WorldLaws.SessionAsides.{Aside, lower-down-aside, lower-ready-aside, mirror-up-aside, own-reader-aside, reader-up-aside, primary-up-aside}
 use Rattle.world_settling.specs.Draws.{actor_of, is_writer}
 use Rattle.world_settling.proofs.Actors.{writers-stay}
 use Rattle.play_model.specs.declared.dues.Due.TheVariants as due

@@ -8,3 +8,10 @@ pub mod Stamps
 pub mod Writers
 pub mod Pipelines
 pub mod Commands
+pub mod PlayModel
+pub mod World
+pub mod WorldAcks
+pub mod WorldOrders
+pub mod WorldRecoveries
+pub mod WorldSettling
+pub mod WorldTexts

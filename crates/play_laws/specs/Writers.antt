@@ -7,7 +7,7 @@ use Rattle.world.specs.declared.events.Event.{Event}
 use Rattle.world.specs.Parts.{Writing}
 use Rattle.world.specs.Worlds.{start}
 use Rattle.world.specs.Events.{run}
-use Rattle.world_nets.specs.Nets.{is_over}
+use Rattle.world_settling.specs.WorldNets.Nets.{is_over}
 
 -- The writer goes on from these phases in the step in which it has the office's answer.
 abbrev pub is_settled : Phase → Bool

@@ -13,7 +13,6 @@ ghost use Rattle.play_laws.specs.Untold.{StaysQuiet};
 ghost use Rattle.play_laws.specs.Writers.{AllRest, WritersOpen};
 
 use world_acks::acks_tell_of_all_below;
-use world_orders::messages_come_in_order;
 
 /// Between two steps a writer has taken each command that it was given, isn't about to go on with an answer of the
 /// office, has members where a pipeline is wanted, set up or stands, and a connection just where its phase has one.
@@ -94,3 +93,7 @@ pub fn members_are_piped()
     acks_tell_of_all_below();
     messages_come_in_order();
 }
+
+pub use world_acks::recoveries_fit;
+pub use world_orders::{messages_are_taken_in_order, messages_come_in_order, takers_are_open};
+pub use world_settling::messages_are_written;

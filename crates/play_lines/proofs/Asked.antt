@@ -7,11 +7,11 @@ use Rattle.hd_base.specs.declared.links.LinkOut as link_out
 use Rattle.hd_base.specs.declared.roads.Roads as roads
 use Rattle.play_model.specs.declared.asks.ReadAsk.{ReadAsk}
 use Rattle.play_model.specs.States.{PlayState, asked}
-use Rattle.play_readers.specs.declared.clients.ReadClient.{ReadClient}
-use Rattle.play_readers.specs.Asks.{asks_of}
-use Rattle.play_reads.specs.Places.{ReadersBelow}
-use Rattle.play.specs.Reading.{FilesTell}
-use Rattle.play.specs.Standing.{AskFits, AsksFit, world_of}
+use Rattle.play_opening.specs.PlayReaders.ReadClient.{ReadClient}
+use Rattle.play_opening.specs.PlayReaders.Asks.{asks_of}
+use Rattle.play_opening.specs.PlayReads.Places.{ReadersBelow}
+use Rattle.play_opening.specs.Play.Reading.{FilesTell}
+use Rattle.play_opening.specs.Play.Standing.{AskFits, AsksFit, world_of}
 use Rattle.play_lines.specs.declared.playing.Playing.{Playing}
 use Rattle.play_lines.specs.Asking.{AsksArePlays}
 use Rattle.play_lines.specs.Drawing.{blocks_in}

@@ -10,11 +10,11 @@ use Rattle.hd_base.specs.declared.roads.Roads as roads
 use Rattle.play_model.specs.Lines.{PlaysLine}
 use Rattle.play_model.specs.States as states
 use Rattle.play_model.specs.States.{PlayState, ordered}
-use Rattle.play_laws.specs.Intakes.{intake_of}
-use Rattle.play_dues.specs.Places.{client_place}
-use Rattle.play_dues.specs.Showing.{HasClient}
-use Rattle.play.specs.declared.faults.PlayFault.{PlayFault}
-use Rattle.play.proofs.Dispatch.{has_place}
+use Rattle.play_scripts.specs.PlayLaws.Intakes.{intake_of}
+use Rattle.play_opening.specs.PlayDues.Places.{client_place}
+use Rattle.play_opening.specs.PlayDues.Showing.{HasClient}
+use Rattle.play_opening.specs.Play.PlayFault.{PlayFault}
+use Rattle.play_opening.proofs.PlayProofs.Dispatch.{has_place}
 use Rattle.play_lines.specs.declared.playing.Playing.{Playing}
 use Rattle.play_lines.specs.Drawing.{IsLeft, IsCaused, blocks_in}
 use Rattle.play_lines.specs.Ordering.{OrdersAt, Orders, OrdersArePlays}
@@ -36,9 +36,9 @@ use Rattle.writer_core.specs.Commands as given
 use Rattle.writer_core.specs.Commands.{command_length, fits, stand_after, is_too_much, intake_after, admitted}
 use Rattle.world.specs.declared.events.TakenCommand.{TakenCommand}
 use Rattle.world.specs.Clients.{is_formed}
-use Rattle.play_laws.specs.Members.{Names, IsNode}
+use Rattle.play_scripts.specs.PlayLaws.Members.{Names, IsNode}
 use Rattle.play_scripts.specs.Fitting.{LineFits}
-use Rattle.play_laws.specs.Commands.{CommandFits, given_with}
+use Rattle.play_scripts.specs.PlayLaws.Commands.{CommandFits, given_with}
 use Rattle.play_lines.specs.declared.lines.Ordered.{Ordered}
 use Rattle.play_lines.specs.Lines.{ordered_by, StandIs, GivenIs, is_made, CreatesHere, IsBehind, AsksBelow, LineLeft, LineEnds, LineShows}
 

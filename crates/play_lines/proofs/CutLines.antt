@@ -14,33 +14,33 @@ use Rattle.world.specs.Enabled.{leads_from}
 use Rattle.world.specs.Parts.{Upper, by_writer, by_member, by_reader, by_primary, Marks, Writing, Primary, no_primary, was_told, leads, has_led}
 use Rattle.world.specs.Worlds.{World, put, start}
 use Rattle.world.specs.Events.{run}
-use Rattle.world_cuts.specs.Cutting.{cut_world, IsCut, CutsAreLosses}
-use Rattle.world_orders.specs.Open.{AllOpen}
-use Rattle.world_laws.specs.Placing.{Placed}
-use Rattle.world_laws.proofs.FactTables.{if-each}
-use Rattle.play_clients.specs.Blocks.{blocks_of}
+use Rattle.play_opening.specs.WorldCuts.Cutting.{cut_world, IsCut, CutsAreLosses}
+use Rattle.play_scripts.specs.WorldOrders.Open.{AllOpen}
+use Rattle.play_model.specs.WorldLaws.Placing.{Placed}
+use Rattle.play_model.proofs.WorldLaws.FactTables.{if-each}
+use Rattle.play_opening.specs.PlayClients.Blocks.{blocks_of}
 use Rattle.play_model.specs.Lines.{pipeline_conn, cut_at}
 use Rattle.play_model.specs.States as states
 use Rattle.play_model.specs.States.{PlayState}
-use Rattle.play_clients.specs.declared.clients.Client.{Client}
-use Rattle.play_dues.specs.declared.live.LiveConns.{LiveConns}
-use Rattle.play_dues.specs.Live.{Covers}
-use Rattle.play_dues.specs.Spent.{is_given_up, is_spent}
-use Rattle.play_nodes.specs.Showing.{has_events}
-use Rattle.play.specs.declared.faults.PlayFault.{PlayFault}
-use Rattle.play.specs.declared.player.Player.{Player}
-use Rattle.play.specs.Cutting as player
-use Rattle.play.specs.Cutting.{losses, HasCut}
-use Rattle.play.specs.Laws.{Laws}
-use Rattle.play_laws.specs.Commands.{given_with}
-use Rattle.play.specs.Standing.{world_of}
-use Rattle.play_laws.specs.Intakes.{intake_of}
+use Rattle.play_opening.specs.PlayClients.Client.{Client}
+use Rattle.play_opening.specs.PlayDues.LiveConns.{LiveConns}
+use Rattle.play_opening.specs.PlayDues.Live.{Covers}
+use Rattle.play_opening.specs.PlayDues.Spent.{is_given_up, is_spent}
+use Rattle.play_scripts.specs.PlayNodes.Showing.{has_events}
+use Rattle.play_opening.specs.Play.PlayFault.{PlayFault}
+use Rattle.play_opening.specs.Play.Player.{Player}
+use Rattle.play_opening.specs.Play.Cutting as player
+use Rattle.play_opening.specs.Play.Cutting.{losses, HasCut}
+use Rattle.play_opening.specs.Play.Laws.{Laws}
+use Rattle.play_scripts.specs.PlayLaws.Commands.{given_with}
+use Rattle.play_opening.specs.Play.Standing.{world_of}
+use Rattle.play_scripts.specs.PlayLaws.Intakes.{intake_of}
 use Rattle.play_lines.specs.declared.playing.Playing.{Playing}
 use Rattle.play_lines.specs.Drawing.{IsCaused, IsDrawn}
 use Rattle.play_lines.specs.Pipelines.{number_of, pipeline_at}
 use Rattle.play_lines.specs.Cutting.{CutShows}
-use Rattle.play_readers.specs.Asks.{asks_of}
-use Rattle.play_recoveries.specs.Places.{recoveries_of}
+use Rattle.play_opening.specs.PlayReaders.Asks.{asks_of}
+use Rattle.play_opening.specs.PlayRecoveries.Places.{recoveries_of}
 use Rattle.play_lines.specs.Showing.{PlayIs, IsPlaying}
 use Rattle.play_lines.proofs.Drawn.{world_same, dues_show}
 use Rattle.play_lines.proofs.Pipelined.{pipeline_told, conn_within}

@@ -13,7 +13,7 @@ use Rattle.rand_pcg.specs.Pcg.{pcg32}
 use Rattle.world.specs.declared.events.Event.{Event}
 use Rattle.world.specs.Worlds.{World, start}
 use Rattle.world.specs.Events.{run}
-use Rattle.world_orders.specs.Open.{AllOpen}
+use Rattle.play_scripts.specs.WorldOrders.Open.{AllOpen}
 use Rattle.play_model.specs.declared.asks.ReadAsk.{ReadAsk}
 use Rattle.play_model.specs.declared.recoveries.Recovery.{Recovery}
 use Rattle.play_model.specs.declared.dues.Due.{Due}
@@ -21,32 +21,32 @@ use Rattle.play_model.specs.declared.dues.Due.TheVariants as due
 use Rattle.play_model.specs.Draws.{draw}
 use Rattle.play_model.specs.Dues.{is_due, dues, due_events, queues_after, after_due}
 use Rattle.play_model.specs.Laws.{IsListed, ListedAreDue}
-use Rattle.play_laws.specs.Intakes.{intake_of}
+use Rattle.play_scripts.specs.PlayLaws.Intakes.{intake_of}
 use Rattle.play_model.specs.States as states
 use Rattle.play_model.specs.States.{PlayState}
-use Rattle.play_clients.specs.declared.clients.Client.{Client}
-use Rattle.play_dues.specs.Drawing.{DrawsFrom, DrawsDue, PlaysAreDrawn, PlaysEnd}
-use Rattle.play_dues.specs.Listing.{all_dues, DuesAreListed}
-use Rattle.play_dues.specs.declared.live.LiveConns.{LiveConns}
-use Rattle.play_dues.specs.Live.{Covers, IsCurrent, IsRefreshed, CurrentCovers, CoversOn}
-use Rattle.play_clients.specs.Blocks.{blocks_of}
-use Rattle.play_dues.specs.Showing.{HasClient, DuesShow}
-use Rattle.play.specs.declared.faults.PlayFault.{PlayFault}
-use Rattle.play.specs.declared.faults.PlayFault.TheVariants as fault
-use Rattle.play.specs.declared.player.Player.{Player}
-use Rattle.play.specs.Events as player
-use Rattle.play.specs.Events.{KeepsPlaces}
-use Rattle.play.specs.Laws.{Laws}
-use Rattle.play_readers.specs.declared.clients.ReadClient.{ReadClient}
-use Rattle.play_readers.specs.Asks.{asks_of}
-use Rattle.play_reads.specs.Places.{HasAsk}
-use Rattle.play_primaries.specs.declared.clients.PrimaryClient.{PrimaryClient}
-use Rattle.play_recoveries.specs.Places.{recoveries_of, HasRecovery}
-use Rattle.play.specs.Reading.{ReadsAreTold}
-use Rattle.play.specs.Showing.{PlayerStands}
-use Rattle.play.proofs.Lawful.{are_placed}
-use Rattle.play_laws.specs.Commands.{given_with}
-use Rattle.play.specs.Standing.{world_of, PlayStands, HasHappened, HappenShows, ActorIsClient}
+use Rattle.play_opening.specs.PlayClients.Client.{Client}
+use Rattle.play_opening.specs.PlayDues.Drawing.{DrawsFrom, DrawsDue, PlaysAreDrawn, PlaysEnd}
+use Rattle.play_opening.specs.PlayDues.Listing.{all_dues, DuesAreListed}
+use Rattle.play_opening.specs.PlayDues.LiveConns.{LiveConns}
+use Rattle.play_opening.specs.PlayDues.Live.{Covers, IsCurrent, IsRefreshed, CurrentCovers, CoversOn}
+use Rattle.play_opening.specs.PlayClients.Blocks.{blocks_of}
+use Rattle.play_opening.specs.PlayDues.Showing.{HasClient, DuesShow}
+use Rattle.play_opening.specs.Play.PlayFault.{PlayFault}
+use Rattle.play_opening.specs.Play.PlayFault.TheVariants as fault
+use Rattle.play_opening.specs.Play.Player.{Player}
+use Rattle.play_opening.specs.Play.Events as player
+use Rattle.play_opening.specs.Play.Events.{KeepsPlaces}
+use Rattle.play_opening.specs.Play.Laws.{Laws}
+use Rattle.play_opening.specs.PlayReaders.ReadClient.{ReadClient}
+use Rattle.play_opening.specs.PlayReaders.Asks.{asks_of}
+use Rattle.play_opening.specs.PlayReads.Places.{HasAsk}
+use Rattle.play_opening.specs.PlayPrimaries.PrimaryClient.{PrimaryClient}
+use Rattle.play_opening.specs.PlayRecoveries.Places.{recoveries_of, HasRecovery}
+use Rattle.play_opening.specs.Play.Reading.{ReadsAreTold}
+use Rattle.play_opening.specs.Play.Showing.{PlayerStands}
+use Rattle.play_opening.proofs.PlayProofs.Lawful.{are_placed}
+use Rattle.play_scripts.specs.PlayLaws.Commands.{given_with}
+use Rattle.play_opening.specs.Play.Standing.{world_of, PlayStands, HasHappened, HappenShows, ActorIsClient}
 use Rattle.play_lines.specs.declared.playing.Playing.{Playing}
 use Rattle.play_lines.specs.Drawing.{IsCaused, blocks_in, DrawEnds, DrawShows}
 use Rattle.play_lines.specs.Showing.{PlayIs, IsPlaying, given_in}

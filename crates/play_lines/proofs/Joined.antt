@@ -9,10 +9,10 @@ use Rattle.world.specs.Clients.{are_members}
 use Rattle.world.specs.Worlds.{World}
 use Rattle.play_model.specs.declared.recoveries.Recovery.{Recovery}
 use Rattle.play_model.specs.States.{PlayState, recovering}
-use Rattle.play_primaries.specs.declared.clients.PrimaryClient.{PrimaryClient}
-use Rattle.play_recoveries.specs.Joining.{RunsIfItMay}
-use Rattle.play_recoveries.specs.Places.{recoveries_of, PrimariesBelow}
-use Rattle.play.specs.Standing.{RecoveryFits, RecoveriesFit, world_of}
+use Rattle.play_opening.specs.PlayPrimaries.PrimaryClient.{PrimaryClient}
+use Rattle.play_opening.specs.PlayRecoveries.Joining.{RunsIfItMay}
+use Rattle.play_opening.specs.PlayRecoveries.Places.{recoveries_of, PrimariesBelow}
+use Rattle.play_opening.specs.Play.Standing.{RecoveryFits, RecoveriesFit, world_of}
 use Rattle.play_lines.specs.declared.playing.Playing.{Playing}
 use Rattle.play_lines.specs.Drawing.{blocks_in}
 use Rattle.play_lines.specs.Lines.{AsksBelow}

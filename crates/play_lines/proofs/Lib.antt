@@ -19,3 +19,6 @@ pub mod Lined
 pub mod ReadLines
 pub mod RecoverLines
 pub mod LineRuns
+pub mod PlayClients
+pub mod PlayLaws
+pub mod PlayNodes

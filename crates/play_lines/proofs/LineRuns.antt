@@ -12,14 +12,14 @@ use Rattle.script_lang.specs.Fits.{Before, after}
 use Rattle.play_model.specs.Lines.{PlaysLine, PlaysLines}
 use Rattle.play_model.specs.Draws.{Settles}
 use Rattle.play_model.specs.States.{PlayState}
-use Rattle.play.specs.declared.faults.PlayFault.{PlayFault}
+use Rattle.play_opening.specs.Play.PlayFault.{PlayFault}
 use Rattle.play_lines.specs.declared.playing.Playing.{Playing}
 use Rattle.play_lines.specs.Drawing.{blocks_in, SettleEnds, SettleShows}
 use Rattle.play_lines.specs.Showing.{PlayIs, IsPlaying}
 use Rattle.play_lines.specs.Lines.{AsksBelow, CreatesHere, AllCreateHere, CanPlay, IsReady, LineLeft, LineShowsOver, LinesEnd, LinesShow}
 use Rattle.writer_core.specs.declared.intake.TheConstants.{MAX_COMMANDS}
 use Rattle.play_lines.proofs.Places.{moved}
-use Rattle.node_opening.specs.Laws.{NeverFell}
+use Rattle.play_scripts.specs.NodeOpening.Laws.{NeverFell}
 use Rattle.play_lines.proofs.Runs.{caused_from}
 use Rattle.play_lines.proofs.ShelfLemmas.{line_fault, fault_from}
 

@@ -14,19 +14,19 @@ use Rattle.script_lang.specs.declared.instructions.Instruction.TheVariants as sa
 use Rattle.script_lang.specs.declared.instructions.StepEvent.{StepEvent}
 use Rattle.script_lang.specs.Fits.{Before, is_open, is_closed, is_created, after}
 use Rattle.world.specs.Worlds.{put}
-use Rattle.world_laws.proofs.StampGivens.{put-there}
+use Rattle.play_model.proofs.WorldLaws.StampGivens.{put-there}
 use Rattle.writer_core.specs.declared.intake.Intake.{Intake}
 use Rattle.play_model.specs.declared.dues.Due.{Due}
 use Rattle.play_model.specs.Draws.{draw, draws, drawn_from, drawn, happened, advanced}
 use Rattle.play_model.specs.Dues.{dues, after_due, is_due}
 use Rattle.play_model.specs.Lines.{PlaysLine, stepped, step_due, pipeline_conn, cut_at, stopped, stop_at}
 use Rattle.play_model.specs.States.{PlayState, ruled, world_of}
-use Rattle.play_dues.specs.Places.{client_place}
-use Rattle.play_dues.specs.Showing.{HasClient}
+use Rattle.play_opening.specs.PlayDues.Places.{client_place}
+use Rattle.play_opening.specs.PlayDues.Showing.{HasClient}
 use Rattle.play_scripts.specs.Fitting.{LineFits, WordsFit}
 use Rattle.play_scripts.specs.Unplayed.{is_start}
-use Rattle.play.specs.declared.faults.PlayFault.{PlayFault}
-use Rattle.play.proofs.Dispatch.{has_place}
+use Rattle.play_opening.specs.Play.PlayFault.{PlayFault}
+use Rattle.play_opening.proofs.PlayProofs.Dispatch.{has_place}
 use Rattle.play_lines.specs.declared.playing.Playing.{Playing}
 use Rattle.play_lines.specs.Drawing.{IsLeft, IsDrawn, RunEnds, RunShows, SettleEnds, SettleShows, blocks_in}
 use Rattle.play_lines.specs.Ruling.{RulesAt, Rules, RulesArePlays}

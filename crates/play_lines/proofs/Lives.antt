@@ -5,16 +5,16 @@ use Rattle.std.proofs.lemmas.Bool.{and_parts}
 use Rattle.hd_base.specs.declared.links.LinkIn as link_in
 use Rattle.hd_base.specs.declared.links.LinkOut as link_out
 use Rattle.hd_base.specs.declared.numbers.BlockId.{BlockId}
-use Rattle.recovery_core.specs.declared.primary.Recovered.{Recovered}
+use Rattle.world.specs.RecoveryCore.Recovered.{Recovered}
 use Rattle.road_traffic.specs.Showing.{Net}
 use Rattle.world.specs.Parts.{Leading, no_primary, leads, has_led}
 use Rattle.world.specs.Worlds.{World}
 use Rattle.play_model.specs.declared.recoveries.Recovery.{Recovery}
-use Rattle.play_primaries.specs.declared.clients.PrimaryState.{PrimaryState}
-use Rattle.play_primaries.specs.declared.clients.PrimaryState.TheVariants as state
-use Rattle.play_primaries.specs.Clients.{StateShows}
-use Rattle.play_recoveries.specs.declared.recoveries.Recoveries.{Recoveries}
-use Rattle.play_recoveries.specs.Showing.{RecoveriesShow}
+use Rattle.play_opening.specs.PlayPrimaries.PrimaryState.{PrimaryState}
+use Rattle.play_opening.specs.PlayPrimaries.PrimaryState.TheVariants as state
+use Rattle.play_opening.specs.PlayPrimaries.Clients.{StateShows}
+use Rattle.play_opening.specs.PlayRecoveries.Recoveries.{Recoveries}
+use Rattle.play_opening.specs.PlayRecoveries.Showing.{RecoveriesShow}
 
 abbrev pub PrimariesLived : World → Type 0
 PrimariesLived w = (number : ℕ) (l : Leading) → w.primaries number ≡ leads l → l.at.life ≤ w.lives l.at.node

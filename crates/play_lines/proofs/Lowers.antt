@@ -15,33 +15,33 @@ use Rattle.world.specs.Parts.{by_writer, by_member, by_reader, by_primary}
 use Rattle.world.specs.Safe.{Has}
 use Rattle.world.specs.Worlds.{World, start}
 use Rattle.world.specs.Events.{run}
-use Rattle.world_settling.specs.Measure.{writer_weight}
-use Rattle.world_settling.specs.Traffic.{traffic}
+use Rattle.play_scripts.specs.WorldSettling.Measure.{writer_weight}
+use Rattle.play_scripts.specs.WorldSettling.Traffic.{traffic}
 use Rattle.play_model.specs.declared.asks.ReadAsk.{ReadAsk}
 use Rattle.play_model.specs.declared.recoveries.Recovery.{Recovery}
 use Rattle.play_model.specs.declared.dues.Due.{Due}
 use Rattle.play_model.specs.declared.dues.Due.TheVariants as due
-use Rattle.play_nodes.proofs.Numbers.{same_place}
-use Rattle.play_nodes.proofs.Tables.{element}
-use Rattle.play_primaries.specs.declared.clients.PrimaryClient.{PrimaryClient}
-use Rattle.play_recoveries.specs.Places.{recoveries_of, PrimariesAscend}
-use Rattle.world_texts.specs.Texts.{AllFit}
+use Rattle.play_scripts.proofs.PlayNodes.Numbers.{same_place}
+use Rattle.play_scripts.proofs.PlayNodes.Tables.{element}
+use Rattle.play_opening.specs.PlayPrimaries.PrimaryClient.{PrimaryClient}
+use Rattle.play_opening.specs.PlayRecoveries.Places.{recoveries_of, PrimariesAscend}
+use Rattle.play_scripts.specs.WorldTexts.Texts.{AllFit}
 use Rattle.play_model.specs.Draws.{drawn_from, happened, advanced, draw}
 use Rattle.play_model.specs.Dues.{Queues, is_due, dues, after_due}
 use Rattle.play_model.specs.Laws.{OwnAmong, RecoveryAmong, IsListed, ListedAreDue}
 use Rattle.play_model.specs.States as states
 use Rattle.play_model.specs.States.{PlayState}
-use Rattle.play_settling.specs.Settling.{queue_weight, block_weight, ask_weight, recovers_weight, writers_weight, reads_weight, weight_of, AreApart, AreNumbered, UpperAmong, ActorAmong, IsUntold, IsFormed, CanHappen, PlaysLower}
-use Rattle.play_clients.specs.declared.clients.Client.{Client}
-use Rattle.play_clients.specs.Blocks.{blocks_of}
-use Rattle.play_dues.specs.Showing.{HasClient}
-use Rattle.play_dues.proofs.UpperLaws.{heard_conn}
-use Rattle.play.specs.Laws.{Laws}
-use Rattle.play.specs.Standing.{world_of}
-use Rattle.play.proofs.Lawful.{room}
+use Rattle.play_opening.specs.PlaySettling.Settling.{queue_weight, block_weight, ask_weight, recovers_weight, writers_weight, reads_weight, weight_of, AreApart, AreNumbered, UpperAmong, ActorAmong, IsUntold, IsFormed, CanHappen, PlaysLower}
+use Rattle.play_opening.specs.PlayClients.Client.{Client}
+use Rattle.play_opening.specs.PlayClients.Blocks.{blocks_of}
+use Rattle.play_opening.specs.PlayDues.Showing.{HasClient}
+use Rattle.play_opening.proofs.PlayDues.UpperLaws.{heard_conn}
+use Rattle.play_opening.specs.Play.Laws.{Laws}
+use Rattle.play_opening.specs.Play.Standing.{world_of}
+use Rattle.play_opening.proofs.PlayProofs.Lawful.{room}
 use Rattle.play_lines.specs.declared.playing.Playing.{Playing}
 use Rattle.play_lines.specs.Drawing.{blocks_in, DrawShows}
-use Rattle.play_readers.specs.Asks.{asks_of}
+use Rattle.play_opening.specs.PlayReaders.Asks.{asks_of}
 use Rattle.play_lines.specs.Showing.{PlayIs, IsPlaying}
 
 -- HOW MUCH IS TO BE DONE

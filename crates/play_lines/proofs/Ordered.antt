@@ -16,24 +16,24 @@ use Rattle.world.specs.declared.events.Event.{Event}
 use Rattle.world.specs.declared.events.TakenCommand.{TakenCommand}
 use Rattle.world.specs.Worlds.{World, start, add}
 use Rattle.world.specs.Events.{run}
-use Rattle.world_requests.specs.Requests.{IsAmong}
+use Rattle.play_scripts.specs.WorldRequests.Requests.{IsAmong}
 use Rattle.play_model.specs.Dues.{Queues}
 use Rattle.play_model.specs.States.{PlayState, ordered}
-use Rattle.play_laws.specs.Intakes.{intake_of}
-use Rattle.play_clients.specs.declared.clients.Client.{Client}
-use Rattle.play_clients.specs.Clients.{ClientShows}
-use Rattle.play_nodes.proofs.Tables.{SetOr, set_or}
-use Rattle.play_clients.specs.Blocks.{blocks_of}
-use Rattle.play_dues.specs.Showing.{HasClient}
-use Rattle.play.specs.Showing.{IsClient, AreApart}
-use Rattle.play_laws.specs.Commands.{CommandFits, CommandsFit, given_with}
-use Rattle.play.specs.Standing.{ClientFits, world_of}
+use Rattle.play_scripts.specs.PlayLaws.Intakes.{intake_of}
+use Rattle.play_opening.specs.PlayClients.Client.{Client}
+use Rattle.play_opening.specs.PlayClients.Clients.{ClientShows}
+use Rattle.play_scripts.proofs.PlayNodes.Tables.{SetOr, set_or}
+use Rattle.play_opening.specs.PlayClients.Blocks.{blocks_of}
+use Rattle.play_opening.specs.PlayDues.Showing.{HasClient}
+use Rattle.play_opening.specs.Play.Showing.{IsClient, AreApart}
+use Rattle.play_scripts.specs.PlayLaws.Commands.{CommandFits, CommandsFit, given_with}
+use Rattle.play_opening.specs.Play.Standing.{ClientFits, world_of}
 use Rattle.play_lines.specs.declared.playing.Playing.{Playing}
 use Rattle.play_lines.specs.Drawing.{IsLeft}
-use Rattle.play.specs.declared.faults.PlayFault.{PlayFault}
-use Rattle.play.specs.declared.faults.PlayFault.TheVariants as fault
-use Rattle.play.proofs.Dispatch.{client_at}
-use Rattle.play_dues.specs.Places.{client_place}
+use Rattle.play_opening.specs.Play.PlayFault.{PlayFault}
+use Rattle.play_opening.specs.Play.PlayFault.TheVariants as fault
+use Rattle.play_opening.proofs.PlayProofs.Dispatch.{client_at}
+use Rattle.play_opening.specs.PlayDues.Places.{client_place}
 use Rattle.play_lines.specs.Ordering.{IsOrdered, OrdersAt, Orders, OrdersArePlays}
 use Rattle.play_lines.specs.Showing.{PlayIs, given_in}
 use Rattle.play_lines.proofs.Places.{set_numbers, moved}

@@ -8,13 +8,13 @@ use Rattle.road_traffic.specs.Showing.{Net}
 use Rattle.world.specs.Parts as parts
 use Rattle.world.specs.Parts.{by_writer, by_member, by_reader, by_primary, Lower, writes}
 use Rattle.world.specs.Worlds.{World}
-use Rattle.world_laws.specs.Placing.{Placed, IsLower}
+use Rattle.play_model.specs.WorldLaws.Placing.{Placed, IsLower}
 use Rattle.play_model.specs.Lines.{is_dial_of, latest_dial, mirror_of, conn_behind, pipeline_conn}
-use Rattle.play_nodes.specs.declared.connections.Connection.{Connection}
-use Rattle.play_nodes.specs.declared.connections.Upper.{Upper}
-use Rattle.play_nodes.specs.declared.connections.Upper.TheVariants as upper
-use Rattle.play_nodes.specs.declared.nodes.Nodes.{Nodes}
-use Rattle.play_nodes.specs.Showing.{UpperShows, NodesShow}
+use Rattle.play_scripts.specs.PlayNodes.Connection.{Connection}
+use Rattle.play_scripts.specs.PlayNodes.Upper.{Upper}
+use Rattle.play_scripts.specs.PlayNodes.Upper.TheVariants as upper
+use Rattle.play_scripts.specs.PlayNodes.Nodes.{Nodes}
+use Rattle.play_scripts.specs.PlayNodes.Showing.{UpperShows, NodesShow}
 use Rattle.play_lines.specs.Pipelines.{number_of, is_dialled_by, dialled_at, latest_in, mirror_at, conn_at, pipeline_at}
 
 -- CONNECTIONS

@@ -5,9 +5,9 @@ use Rattle.std.proofs.lemmas.Option.{same_Some}
 use Rattle.play_model.specs.declared.recoveries.Recovery.{Recovery}
 use Rattle.play_model.specs.Recoveries.{stopped_at}
 use Rattle.play_model.specs.States.{PlayState}
-use Rattle.play_clients.specs.declared.clients.Client.{Client}
-use Rattle.play_clients.specs.Blocks.{blocks_of}
-use Rattle.play_dues.specs.Showing.{HasClient}
+use Rattle.play_opening.specs.PlayClients.Client.{Client}
+use Rattle.play_opening.specs.PlayClients.Blocks.{blocks_of}
+use Rattle.play_opening.specs.PlayDues.Showing.{HasClient}
 use Rattle.play_lines.specs.Lines.{AsksBelow}
 
 pub set_numbers : {I O : Type 0} (xs : List (Client I O)) (k : ℕ) (a b : Client I O) → slice_get xs k ≡ Some a → b.block.0 ≡ a.block.0 → blocks_of (slice_set xs k b) ≡ blocks_of xs

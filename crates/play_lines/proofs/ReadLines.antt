@@ -13,17 +13,17 @@ use Rattle.script_lang.specs.declared.instructions.Instruction.TheVariants as sa
 use Rattle.script_lang.specs.declared.instructions.ScriptLine.{ScriptLine}
 use Rattle.script_lang.specs.Fits.{Before, after}
 use Rattle.world.specs.Worlds.{World}
-use Rattle.world_requests.specs.Requests.{IsAmong}
-use Rattle.world_texts.specs.Texts.{CanBeAsked}
+use Rattle.play_scripts.specs.WorldRequests.Requests.{IsAmong}
+use Rattle.play_scripts.specs.WorldTexts.Texts.{CanBeAsked}
 use Rattle.play_model.specs.declared.asks.ReadAsk.{ReadAsk}
 use Rattle.play_model.specs.Asks.{request_of}
 use Rattle.play_model.specs.Lines.{PlaysLine}
 use Rattle.play_model.specs.States as states
 use Rattle.play_model.specs.States.{PlayState, asked}
 use Rattle.play_scripts.specs.Fitting.{LineFits}
-use Rattle.play.specs.declared.faults.PlayFault.{PlayFault}
-use Rattle.play.specs.Reading.{FilesTell}
-use Rattle.play.specs.Standing.{AskFits}
+use Rattle.play_opening.specs.Play.PlayFault.{PlayFault}
+use Rattle.play_opening.specs.Play.Reading.{FilesTell}
+use Rattle.play_opening.specs.Play.Standing.{AskFits}
 use Rattle.play_lines.specs.declared.playing.Playing.{Playing}
 use Rattle.play_lines.specs.Asking.{ask_in, HasAsked, Asks, AsksArePlays}
 use Rattle.play_lines.specs.Drawing.{IsLeft, blocks_in}

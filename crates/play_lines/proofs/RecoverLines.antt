@@ -12,14 +12,14 @@ use Rattle.script_lang.specs.declared.instructions.Instruction.TheVariants as sa
 use Rattle.script_lang.specs.declared.instructions.ScriptLine.{ScriptLine}
 use Rattle.script_lang.specs.Fits.{Before, after}
 use Rattle.world.specs.Worlds.{World}
-use Rattle.world_requests.specs.Requests.{IsAmong}
+use Rattle.play_scripts.specs.WorldRequests.Requests.{IsAmong}
 use Rattle.play_model.specs.declared.recoveries.Recovery.{Recovery}
 use Rattle.play_model.specs.Lines.{PlaysLine}
 use Rattle.play_model.specs.States as states
 use Rattle.play_model.specs.States.{PlayState, recovering}
-use Rattle.play_nodes.specs.Showing.{runs_in}
+use Rattle.play_scripts.specs.PlayNodes.Showing.{runs_in}
 use Rattle.play_scripts.specs.Fitting.{LineFits}
-use Rattle.play.specs.declared.faults.PlayFault.{PlayFault}
+use Rattle.play_opening.specs.Play.PlayFault.{PlayFault}
 use Rattle.play_lines.specs.declared.playing.Playing.{Playing}
 use Rattle.play_lines.specs.Drawing.{IsLeft, blocks_in}
 use Rattle.play_lines.specs.Lines.{IsBehind, AsksBelow, LineLeft, LineShowsOver}

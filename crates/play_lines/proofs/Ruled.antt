@@ -9,16 +9,16 @@ use Rattle.hd_base.specs.declared.roads.Roads as roads
 use Rattle.hd_base.specs.SumRules.{Rule}
 use Rattle.road_traffic.specs.Showing.{Net}
 use Rattle.world.specs.Worlds.{World, put}
-use Rattle.world_laws.proofs.StampGivens.{put-here, put-there}
+use Rattle.play_model.proofs.WorldLaws.StampGivens.{put-here, put-there}
 use Rattle.play_model.specs.States.{PlayState, ruled}
-use Rattle.play_clients.specs.declared.clients.Client.{Client}
-use Rattle.play_clients.specs.Clients.{ClientShows}
-use Rattle.play_nodes.proofs.Tables.{SetOr, set_or}
-use Rattle.play_clients.specs.Blocks.{blocks_of}
-use Rattle.play_dues.specs.Places.{client_place}
-use Rattle.play.specs.Showing.{IsClient, AreApart}
-use Rattle.play.specs.Standing.{ClientFits, world_of}
-use Rattle.play.proofs.Dispatch.{client_at}
+use Rattle.play_opening.specs.PlayClients.Client.{Client}
+use Rattle.play_opening.specs.PlayClients.Clients.{ClientShows}
+use Rattle.play_scripts.proofs.PlayNodes.Tables.{SetOr, set_or}
+use Rattle.play_opening.specs.PlayClients.Blocks.{blocks_of}
+use Rattle.play_opening.specs.PlayDues.Places.{client_place}
+use Rattle.play_opening.specs.Play.Showing.{IsClient, AreApart}
+use Rattle.play_opening.specs.Play.Standing.{ClientFits, world_of}
+use Rattle.play_opening.proofs.PlayProofs.Dispatch.{client_at}
 use Rattle.play_lines.specs.declared.playing.Playing.{Playing}
 use Rattle.play_lines.specs.Drawing.{IsLeft}
 use Rattle.play_lines.specs.Ruling.{IsRuled, RulesAt, Rules, RulesArePlays}

@@ -9,9 +9,9 @@ use Rattle.play_model.specs.declared.dues.Due.{Due}
 use Rattle.play_model.specs.Draws.{drawn_from, draw, draws}
 use Rattle.play_model.specs.Dues.{dues}
 use Rattle.play_model.specs.States.{PlayState}
-use Rattle.member_events.specs.Roads.{RoadsPass}
-use Rattle.play.specs.declared.faults.PlayFault.{PlayFault}
-use Rattle.play.specs.declared.faults.PlayFault.TheVariants as fault
+use Rattle.play_scripts.specs.MemberEvents.Roads.{RoadsPass}
+use Rattle.play_opening.specs.Play.PlayFault.{PlayFault}
+use Rattle.play_opening.specs.Play.PlayFault.TheVariants as fault
 use Rattle.play_lines.specs.declared.playing.Playing.{Playing}
 use Rattle.play_lines.specs.Drawing.{IsCaused, blocks_in, IsDrawn, DrawShows, RunEnds, RunShows, SettleEnds, SettleShows}
 use Rattle.play_lines.specs.Showing.{PlayIs, IsPlaying, given_in}

@@ -8,17 +8,17 @@ use Rattle.hd_base.specs.declared.numbers.BlockId.{BlockId}
 use Rattle.hd_base.specs.declared.numbers.NodeId.{NodeId}
 use Rattle.hd_base.specs.declared.roads.Roads as roads
 use Rattle.hd_base.specs.declared.shelves.Shelf as shelves
-use Rattle.play_nodes.specs.declared.nodes.NodeBooks.{NodeBooks}
-use Rattle.play_nodes.specs.declared.nodes.Nodes.{Nodes}
-use Rattle.play_nodes.specs.Places.{book_counts, KeepsSizes}
-use Rattle.node_opening.specs.Emptiness.{ShelfRose}
-use Rattle.node_opening.specs.Laws.{NeverFell, StandingClose}
-use Rattle.node_opening.proofs.ListenLemmas.{rose_after}
-use Rattle.play_nodes.proofs.PlaceLaws.{element_within}
-use Rattle.node_opening.specs.Shelves.{AreDistinct}
-use Rattle.node_opening.specs.Standing.{ShelfStands, ShelvesStand, AllLentOut, ShelvesStay}
-use Rattle.play.specs.declared.faults.PlayFault.{PlayFault}
-use Rattle.play.specs.declared.faults.PlayFault.TheVariants as fault
+use Rattle.play_scripts.specs.PlayNodes.NodeBooks.{NodeBooks}
+use Rattle.play_scripts.specs.PlayNodes.Nodes.{Nodes}
+use Rattle.play_scripts.specs.PlayNodes.Places.{book_counts, KeepsSizes}
+use Rattle.play_scripts.specs.NodeOpening.Emptiness.{ShelfRose}
+use Rattle.play_scripts.specs.NodeOpening.Laws.{NeverFell, StandingClose}
+use Rattle.play_scripts.proofs.NodeOpening.ListenLemmas.{rose_after}
+use Rattle.play_scripts.proofs.PlayNodes.PlaceLaws.{element_within}
+use Rattle.play_scripts.specs.NodeOpening.Shelves.{AreDistinct}
+use Rattle.play_scripts.specs.NodeOpening.Standing.{ShelfStands, ShelvesStand, AllLentOut, ShelvesStay}
+use Rattle.play_opening.specs.Play.PlayFault.{PlayFault}
+use Rattle.play_opening.specs.Play.PlayFault.TheVariants as fault
 use Rattle.play_lines.specs.declared.playing.Playing.{Playing}
 use Rattle.play_lines.specs.Drawing.{IsCaused}
 use Rattle.play_lines.specs.Shelves.{ShelvesServe, ShelvesGoOn, IsLineFault}

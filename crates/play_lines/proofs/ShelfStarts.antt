@@ -10,16 +10,16 @@ use Rattle.hd_base.specs.declared.numbers.BlockId.{BlockId}
 use Rattle.hd_base.specs.declared.numbers.NodeId.{NodeId}
 use Rattle.hd_base.specs.declared.roads.TheConstants.{MAX_NODES}
 use Rattle.hd_base.specs.declared.shelves.Shelf as shelves
-use Rattle.replica_files.specs.declared.book_state.BookState.{BookState}
-use Rattle.play_nodes.specs.declared.nodes.NodeBooks.{NodeBooks}
-use Rattle.play_nodes.specs.declared.nodes.Nodes.{Nodes}
-use Rattle.play_nodes.proofs.PlaceLaws.{element_within}
+use Rattle.play_opening.specs.ReplicaFiles.BookState.{BookState}
+use Rattle.play_scripts.specs.PlayNodes.NodeBooks.{NodeBooks}
+use Rattle.play_scripts.specs.PlayNodes.Nodes.{Nodes}
+use Rattle.play_scripts.proofs.PlayNodes.PlaceLaws.{element_within}
 use Rattle.told_shelves.specs.Telling.{TheyTell}
-use Rattle.node_opening.specs.Closing.{AreLentOut, AreOf, NodesFit}
-use Rattle.node_opening.specs.Laws.{FitEach}
-use Rattle.node_opening.specs.Shelves.{is_among, AreDistinct, IsEmpty, LendsNoMore}
-use Rattle.node_opening.specs.Standing.{ShelfStands, ShelvesStay}
-use Rattle.node_starts.specs.Books.{AreBooksOf, HasAllBooks, NodeTells, KeepsOthers, StartsOver, HasGivenUp, StopsOver}
+use Rattle.play_scripts.specs.NodeOpening.Closing.{AreLentOut, AreOf, NodesFit}
+use Rattle.play_scripts.specs.NodeOpening.Laws.{FitEach}
+use Rattle.play_scripts.specs.NodeOpening.Shelves.{is_among, AreDistinct, IsEmpty, LendsNoMore}
+use Rattle.play_scripts.specs.NodeOpening.Standing.{ShelfStands, ShelvesStay}
+use Rattle.play_opening.specs.NodeStarts.Books.{AreBooksOf, HasAllBooks, NodeTells, KeepsOthers, StartsOver, HasGivenUp, StopsOver}
 use Rattle.play_lines.specs.declared.playing.Playing.{Playing}
 use Rattle.play_lines.specs.Shelves.{ShelvesServe, ShelvesGoOn}
 use Rattle.play_lines.proofs.ShelfLemmas.{There, there}

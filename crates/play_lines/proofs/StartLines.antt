@@ -21,27 +21,27 @@ use Rattle.world.specs.Enabled.{leads_from, listens_at}
 use Rattle.world.specs.Parts.{Upper, by_writer, by_member, by_reader, by_primary, Writing, Primary, Leading, no_primary, was_told, leads, has_led}
 use Rattle.world.specs.Worlds.{World, start}
 use Rattle.world.specs.Events.{happens, run}
-use Rattle.node_starts.specs.Books.{NodeTells}
-use Rattle.node_starts.specs.Lives.{IsLived, DialsAreLived}
-use Rattle.node_starts.proofs.StartLemmas.{started, start_is}
+use Rattle.play_opening.specs.NodeStarts.Books.{NodeTells}
+use Rattle.play_opening.specs.NodeStarts.Lives.{IsLived, DialsAreLived}
+use Rattle.play_opening.proofs.NodeStarts.StartLemmas.{started, start_is}
 use Rattle.play_model.specs.Dues.{is_open}
 use Rattle.play_model.specs.Lines.{may_start, start_at}
 use Rattle.play_model.specs.States as states
 use Rattle.play_model.specs.States.{PlayState}
-use Rattle.play_clients.specs.declared.clients.Client.{Client}
-use Rattle.play_dues.specs.declared.live.LiveConns.{LiveConns}
-use Rattle.play_dues.specs.Live.{Covers}
-use Rattle.play_clients.specs.Blocks.{blocks_of}
-use Rattle.play_dues.specs.Spent.{is_given_up, is_spent}
-use Rattle.play_laws.specs.Intakes.{intake_of}
-use Rattle.play_nodes.specs.Showing.{runs_in, has_events}
-use Rattle.play.specs.declared.faults.PlayFault.{PlayFault}
-use Rattle.play.specs.declared.faults.PlayFault.TheVariants as fault
-use Rattle.play.specs.Laws.{Laws}
-use Rattle.play_laws.specs.Commands.{given_with}
-use Rattle.play.specs.Standing.{world_of}
-use Rattle.play.specs.Starting as player
-use Rattle.play.specs.Starting.{HasStarted}
+use Rattle.play_opening.specs.PlayClients.Client.{Client}
+use Rattle.play_opening.specs.PlayDues.LiveConns.{LiveConns}
+use Rattle.play_opening.specs.PlayDues.Live.{Covers}
+use Rattle.play_opening.specs.PlayClients.Blocks.{blocks_of}
+use Rattle.play_opening.specs.PlayDues.Spent.{is_given_up, is_spent}
+use Rattle.play_scripts.specs.PlayLaws.Intakes.{intake_of}
+use Rattle.play_scripts.specs.PlayNodes.Showing.{runs_in, has_events}
+use Rattle.play_opening.specs.Play.PlayFault.{PlayFault}
+use Rattle.play_opening.specs.Play.PlayFault.TheVariants as fault
+use Rattle.play_opening.specs.Play.Laws.{Laws}
+use Rattle.play_scripts.specs.PlayLaws.Commands.{given_with}
+use Rattle.play_opening.specs.Play.Standing.{world_of}
+use Rattle.play_opening.specs.Play.Starting as player
+use Rattle.play_opening.specs.Play.Starting.{HasStarted}
 use Rattle.play_lines.specs.declared.playing.Playing.{Playing}
 use Rattle.play_lines.specs.Drawing.{IsDrawn}
 use Rattle.script_lang.specs.declared.instructions.ScriptLine.{ScriptLine}

@@ -10,33 +10,33 @@ use Rattle.script_lang.specs.declared.instructions.StepEvent.{StepEvent}
 use Rattle.script_lang.specs.declared.instructions.StepEvent.TheVariants as step
 use Rattle.road_traffic.specs.Showing.{Net}
 use Rattle.world.specs.Worlds.{World}
-use Rattle.world_laws.specs.Placing.{Placed}
-use Rattle.world_orders.specs.Open.{AllOpen}
+use Rattle.play_model.specs.WorldLaws.Placing.{Placed}
+use Rattle.play_scripts.specs.WorldOrders.Open.{AllOpen}
 use Rattle.play_model.specs.declared.dues.Due.{Due}
 use Rattle.play_model.specs.declared.dues.Due.TheVariants as due
 use Rattle.play_model.specs.Dues.{is_due, after_due}
 use Rattle.play_model.specs.Lines.{step_due, stepped}
 use Rattle.play_model.specs.States as states
 use Rattle.play_model.specs.States.{PlayState}
-use Rattle.play_clients.specs.declared.clients.Client.{Client}
-use Rattle.play_nodes.specs.declared.connections.Connection.{Connection}
-use Rattle.play_nodes.specs.declared.nodes.Nodes.{Nodes}
-use Rattle.play_nodes.specs.Showing.{NodesShow}
-use Rattle.play_dues.specs.declared.live.LiveConns.{LiveConns}
-use Rattle.play_dues.specs.Listing.{IsPlayed, IsAlone, TellsDue}
-use Rattle.play_dues.specs.Live.{Covers, CoversOn}
-use Rattle.play_dues.specs.Places.{client_place}
-use Rattle.play_dues.specs.Showing.{HasClient}
-use Rattle.play.specs.declared.faults.PlayFault.{PlayFault}
-use Rattle.play.specs.declared.player.Player.{Player}
-use Rattle.play.specs.Laws.{Laws}
-use Rattle.play.specs.Showing.{PlayerStands}
-use Rattle.play.specs.Standing.{world_of, HappenEnds, HappenShows, ActorIsClient}
-use Rattle.play.proofs.Dispatch.{has_place, client_at}
+use Rattle.play_opening.specs.PlayClients.Client.{Client}
+use Rattle.play_scripts.specs.PlayNodes.Connection.{Connection}
+use Rattle.play_scripts.specs.PlayNodes.Nodes.{Nodes}
+use Rattle.play_scripts.specs.PlayNodes.Showing.{NodesShow}
+use Rattle.play_opening.specs.PlayDues.LiveConns.{LiveConns}
+use Rattle.play_opening.specs.PlayDues.Listing.{IsPlayed, IsAlone, TellsDue}
+use Rattle.play_opening.specs.PlayDues.Live.{Covers, CoversOn}
+use Rattle.play_opening.specs.PlayDues.Places.{client_place}
+use Rattle.play_opening.specs.PlayDues.Showing.{HasClient}
+use Rattle.play_opening.specs.Play.PlayFault.{PlayFault}
+use Rattle.play_opening.specs.Play.Player.{Player}
+use Rattle.play_opening.specs.Play.Laws.{Laws}
+use Rattle.play_opening.specs.Play.Showing.{PlayerStands}
+use Rattle.play_opening.specs.Play.Standing.{world_of, HappenEnds, HappenShows, ActorIsClient}
+use Rattle.play_opening.proofs.PlayProofs.Dispatch.{has_place, client_at}
 use Rattle.play_lines.specs.declared.playing.Playing.{Playing}
 use Rattle.play_lines.specs.Drawing.{IsDrawn}
-use Rattle.play_reads.specs.declared.reads.Reads.{Reads}
-use Rattle.play_recoveries.specs.declared.recoveries.Recoveries.{Recoveries}
+use Rattle.play_opening.specs.PlayReads.Reads.{Reads}
+use Rattle.play_opening.specs.PlayRecoveries.Recoveries.{Recoveries}
 use Rattle.play_lines.specs.Showing.{PlayIs, IsPlaying}
 use Rattle.play_lines.specs.Pipelines.{pipeline_at}
 use Rattle.play_lines.specs.Stepping.{due_behind, due_where, due_for, StepEnds, StepShows}

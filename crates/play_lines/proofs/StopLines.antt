@@ -15,7 +15,7 @@ use Rattle.world.specs.Parts.{Upper, by_writer, by_member, by_reader, by_primary
 use Rattle.world.specs.Clients.{are_members}
 use Rattle.world.specs.Worlds.{World, start}
 use Rattle.world.specs.Events.{stop, happens, run}
-use Rattle.world_stops.proofs.StopLemmas.{stop_is}
+use Rattle.play_opening.proofs.WorldStops.StopLemmas.{stop_is}
 use Rattle.play_model.specs.Dues.{is_open}
 use Rattle.play_model.specs.Lines as lines
 use Rattle.play_model.specs.Lines.{stop_at}
@@ -23,19 +23,19 @@ use Rattle.play_model.specs.declared.recoveries.Recovery.{Recovery}
 use Rattle.play_model.specs.Recoveries.{stopped_at}
 use Rattle.play_model.specs.States as states
 use Rattle.play_model.specs.States.{PlayState}
-use Rattle.play_clients.specs.declared.clients.Client.{Client}
-use Rattle.play_dues.specs.declared.live.LiveConns.{LiveConns}
-use Rattle.play_dues.specs.Live.{Covers}
-use Rattle.play_clients.specs.Blocks.{blocks_of}
-use Rattle.play_dues.specs.Spent.{is_given_up, is_spent}
-use Rattle.play_laws.specs.Intakes.{intake_of}
-use Rattle.play_nodes.specs.Showing.{runs_in, has_events}
-use Rattle.play.specs.declared.faults.PlayFault.{PlayFault}
-use Rattle.play.specs.Laws.{Laws}
-use Rattle.play_laws.specs.Commands.{given_with}
-use Rattle.play.specs.Standing.{world_of}
-use Rattle.play.specs.Stopping as player
-use Rattle.play.specs.Stopping.{HasStopped}
+use Rattle.play_opening.specs.PlayClients.Client.{Client}
+use Rattle.play_opening.specs.PlayDues.LiveConns.{LiveConns}
+use Rattle.play_opening.specs.PlayDues.Live.{Covers}
+use Rattle.play_opening.specs.PlayClients.Blocks.{blocks_of}
+use Rattle.play_opening.specs.PlayDues.Spent.{is_given_up, is_spent}
+use Rattle.play_scripts.specs.PlayLaws.Intakes.{intake_of}
+use Rattle.play_scripts.specs.PlayNodes.Showing.{runs_in, has_events}
+use Rattle.play_opening.specs.Play.PlayFault.{PlayFault}
+use Rattle.play_opening.specs.Play.Laws.{Laws}
+use Rattle.play_scripts.specs.PlayLaws.Commands.{given_with}
+use Rattle.play_opening.specs.Play.Standing.{world_of}
+use Rattle.play_opening.specs.Play.Stopping as player
+use Rattle.play_opening.specs.Play.Stopping.{HasStopped}
 use Rattle.play_lines.specs.declared.playing.Playing.{Playing}
 use Rattle.play_lines.specs.Drawing.{IsCaused, IsDrawn}
 use Rattle.play_lines.specs.Showing.{PlayIs, IsPlaying}

@@ -9,11 +9,11 @@ use Rattle.hd_base.specs.declared.roads.Roads as roads
 use Rattle.name_core.specs.Offices.{committed_in}
 use Rattle.play_model.specs.declared.asks.ReadAsk.{ReadAsk}
 use Rattle.play_model.specs.States.{PlayState, asked}
-use Rattle.play_reads.specs.Joining.{HasJoined}
-use Rattle.play.specs.declared.faults.PlayFault.{PlayFault}
-use Rattle.play.specs.declared.faults.PlayFault.TheVariants as fault
-use Rattle.play.specs.Reading.{FilesTell}
-use Rattle.play.specs.Standing.{AskFits}
+use Rattle.play_opening.specs.PlayReads.Joining.{HasJoined}
+use Rattle.play_opening.specs.Play.PlayFault.{PlayFault}
+use Rattle.play_opening.specs.Play.PlayFault.TheVariants as fault
+use Rattle.play_opening.specs.Play.Reading.{FilesTell}
+use Rattle.play_opening.specs.Play.Standing.{AskFits}
 use Rattle.play_lines.specs.declared.playing.Playing.{Playing}
 use Rattle.play_lines.specs.Drawing.{IsLeft}
 use Rattle.play_lines.specs.Showing.{PlayIs}

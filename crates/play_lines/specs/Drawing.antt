@@ -5,16 +5,16 @@ use Rattle.hd_base.specs.declared.links.LinkIn as link_in
 use Rattle.hd_base.specs.declared.links.LinkOut as link_out
 use Rattle.hd_base.specs.declared.numbers.NodeId.{NodeId}
 use Rattle.hd_base.specs.declared.roads.Roads as roads
-use Rattle.replica_files.specs.declared.book_state.BookState.{BookState}
+use Rattle.play_opening.specs.ReplicaFiles.BookState.{BookState}
 use Rattle.play_model.specs.Draws.{draw, draws, Settles}
 use Rattle.play_model.specs.Dues.{dues}
 use Rattle.play_model.specs.States.{PlayState}
-use Rattle.play_clients.specs.Blocks.{blocks_of}
-use Rattle.play_dues.specs.Showing.{HasClient}
-use Rattle.play_nodes.specs.declared.nodes.Nodes.{Nodes}
-use Rattle.play_nodes.specs.Places.{book_at}
-use Rattle.play.specs.declared.faults.PlayFault.{PlayFault}
-use Rattle.play.specs.declared.faults.PlayFault.TheVariants as fault
+use Rattle.play_opening.specs.PlayClients.Blocks.{blocks_of}
+use Rattle.play_opening.specs.PlayDues.Showing.{HasClient}
+use Rattle.play_scripts.specs.PlayNodes.Nodes.{Nodes}
+use Rattle.play_scripts.specs.PlayNodes.Places.{book_at}
+use Rattle.play_opening.specs.Play.PlayFault.{PlayFault}
+use Rattle.play_opening.specs.Play.PlayFault.TheVariants as fault
 use Rattle.hd_base.specs.RoadFaults.{RoadsFailed}
 use Rattle.play_lines.specs.declared.playing.Playing.{Playing}
 use Rattle.play_lines.specs.Showing.{PlayIs, given_in}

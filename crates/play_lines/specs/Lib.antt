@@ -11,3 +11,14 @@ pub mod Stopping
 pub mod Shelves
 pub mod Starting
 pub mod Lines
+pub mod NodeOpening
+pub mod Play
+pub mod PlayClients
+pub mod PlayDues
+pub mod PlayLaws
+pub mod PlayOpening
+pub mod PlayPrimaries
+pub mod PlayReaders
+pub mod PlayReads
+pub mod PlayRecoveries
+pub mod PlayScripts

@@ -21,8 +21,8 @@ use Rattle.play_model.specs.declared.asks.ReadAsk.{ReadAsk}
 use Rattle.play_model.specs.declared.recoveries.Recovery.{Recovery}
 use Rattle.play_scripts.specs.Numbering.{LinesAscend}
 use Rattle.play_scripts.specs.Fitting.{LineFits, LinesFit}
-use Rattle.play_dues.specs.Showing.{HasClient}
-use Rattle.play.specs.declared.faults.PlayFault.{PlayFault}
+use Rattle.play_opening.specs.PlayDues.Showing.{HasClient}
+use Rattle.play_opening.specs.Play.PlayFault.{PlayFault}
 use Rattle.play_lines.specs.declared.lines.Ordered.{Ordered}
 use Rattle.play_lines.specs.declared.playing.Playing.{Playing}
 use Rattle.play_lines.specs.Drawing.{IsCaused, blocks_in}

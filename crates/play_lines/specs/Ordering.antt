@@ -7,11 +7,11 @@ use Rattle.hd_base.specs.declared.numbers.BlockId.{BlockId}
 use Rattle.hd_base.specs.declared.roads.Roads as roads
 use Rattle.writer_core.specs.declared.commands.Command.{Command}
 use Rattle.play_model.specs.States.{PlayState, ordered}
-use Rattle.play_clients.specs.declared.clients.Client.{Client}
-use Rattle.play_dues.specs.Places.{client_place}
-use Rattle.play.specs.declared.faults.PlayFault.{PlayFault}
-use Rattle.play.specs.declared.faults.PlayFault.TheVariants as fault
-use Rattle.play_laws.specs.Commands.{CommandFits}
+use Rattle.play_opening.specs.PlayClients.Client.{Client}
+use Rattle.play_opening.specs.PlayDues.Places.{client_place}
+use Rattle.play_opening.specs.Play.PlayFault.{PlayFault}
+use Rattle.play_opening.specs.Play.PlayFault.TheVariants as fault
+use Rattle.play_scripts.specs.PlayLaws.Commands.{CommandFits}
 use Rattle.play_lines.specs.declared.playing.Playing.{Playing}
 use Rattle.play_lines.specs.Drawing.{IsLeft}
 use Rattle.play_lines.specs.Showing.{PlayIs, given_in}

@@ -1,9 +1,9 @@
 -- The present pipeline of a block, by the connections of the nodes.
 use Rattle.std.specs.Prelude.{zero, suc, ℕ, ◌==◌, if◌then◌else◌, Bool, false, List, length, slice_get, Option, Some, None, option_map, option_and_then}
 use Rattle.hd_base.specs.declared.numbers.ConnId.{ConnId}
-use Rattle.play_nodes.specs.declared.connections.Connection.{Connection}
-use Rattle.play_nodes.specs.declared.connections.Upper.{Upper}
-use Rattle.play_nodes.specs.declared.connections.Upper.TheVariants as upper
+use Rattle.play_scripts.specs.PlayNodes.Connection.{Connection}
+use Rattle.play_scripts.specs.PlayNodes.Upper.{Upper}
+use Rattle.play_scripts.specs.PlayNodes.Upper.TheVariants as upper
 
 -- the number of a connection, if there is one
 abbrev pub number_of : Option ConnId → Option ℕ

@@ -9,11 +9,11 @@ use Rattle.hd_base.specs.declared.roads.Roads as roads
 use Rattle.world.specs.Clients.{are_members}
 use Rattle.play_model.specs.declared.recoveries.Recovery.{Recovery}
 use Rattle.play_model.specs.States.{PlayState, world_of, recovering}
-use Rattle.play_nodes.specs.Showing.{runs_in}
-use Rattle.play_recoveries.specs.Joining.{HasJoined, RunsIfItMay}
-use Rattle.play.specs.declared.faults.PlayFault.{PlayFault}
-use Rattle.play.specs.declared.faults.PlayFault.TheVariants as fault
-use Rattle.play.specs.Standing.{RecoveryFits}
+use Rattle.play_scripts.specs.PlayNodes.Showing.{runs_in}
+use Rattle.play_opening.specs.PlayRecoveries.Joining.{HasJoined, RunsIfItMay}
+use Rattle.play_opening.specs.Play.PlayFault.{PlayFault}
+use Rattle.play_opening.specs.Play.PlayFault.TheVariants as fault
+use Rattle.play_opening.specs.Play.Standing.{RecoveryFits}
 use Rattle.play_lines.specs.declared.playing.Playing.{Playing}
 use Rattle.play_lines.specs.Drawing.{IsLeft}
 use Rattle.play_lines.specs.Showing.{PlayIs}

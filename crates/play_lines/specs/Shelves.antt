@@ -4,10 +4,10 @@ use Rattle.hd_base.specs.declared.files.Files as files
 use Rattle.hd_base.specs.declared.roads.Roads as roads
 use Rattle.hd_base.specs.declared.roads.TheConstants.{MAX_NODES}
 use Rattle.hd_base.specs.declared.shelves.Shelf as shelves
-use Rattle.node_opening.specs.Emptiness.{ShelfRose}
-use Rattle.node_opening.specs.Standing.{ShelvesStand, AllLentOut, ShelvesStay}
-use Rattle.play.specs.declared.faults.PlayFault.{PlayFault}
-use Rattle.play.specs.declared.faults.PlayFault.TheVariants as fault
+use Rattle.play_scripts.specs.NodeOpening.Emptiness.{ShelfRose}
+use Rattle.play_scripts.specs.NodeOpening.Standing.{ShelvesStand, AllLentOut, ShelvesStay}
+use Rattle.play_opening.specs.Play.PlayFault.{PlayFault}
+use Rattle.play_opening.specs.Play.PlayFault.TheVariants as fault
 use Rattle.hd_base.specs.RoadFaults.{RoadsFailed}
 use Rattle.play_lines.specs.declared.playing.Playing.{Playing}
 use Rattle.play_lines.specs.Drawing.{HasFailed}

@@ -10,14 +10,14 @@ use Rattle.play_model.specs.declared.asks.ReadAsk.{ReadAsk}
 use Rattle.play_model.specs.declared.recoveries.Recovery.{Recovery}
 use Rattle.play_model.specs.States as states
 use Rattle.play_model.specs.States.{PlayState}
-use Rattle.play_laws.specs.Intakes.{intake_of}
-use Rattle.play_clients.specs.declared.clients.Client.{Client}
-use Rattle.play_dues.specs.Live.{Covers}
-use Rattle.play_readers.specs.Asks.{asks_of}
-use Rattle.play_recoveries.specs.Places.{recoveries_of}
-use Rattle.play.specs.Reading.{FilesTell}
-use Rattle.play_laws.specs.Commands.{given_with}
-use Rattle.play.specs.Standing.{PlayStands, world_of}
+use Rattle.play_scripts.specs.PlayLaws.Intakes.{intake_of}
+use Rattle.play_opening.specs.PlayClients.Client.{Client}
+use Rattle.play_opening.specs.PlayDues.Live.{Covers}
+use Rattle.play_opening.specs.PlayReaders.Asks.{asks_of}
+use Rattle.play_opening.specs.PlayRecoveries.Places.{recoveries_of}
+use Rattle.play_opening.specs.Play.Reading.{FilesTell}
+use Rattle.play_scripts.specs.PlayLaws.Commands.{given_with}
+use Rattle.play_opening.specs.Play.Standing.{PlayStands, world_of}
 use Rattle.play_lines.specs.declared.playing.Playing.{Playing}
 
 -- Where something is asked all files are told.

@@ -8,7 +8,7 @@ use Rattle.hd_base.specs.declared.roads.Roads as roads
 use Rattle.hd_base.specs.declared.shelves.Shelf as shelves
 use Rattle.play_model.specs.Lines.{start_at}
 use Rattle.play_model.specs.States.{PlayState}
-use Rattle.play.specs.declared.faults.PlayFault.{PlayFault}
+use Rattle.play_opening.specs.Play.PlayFault.{PlayFault}
 use Rattle.play_lines.specs.declared.playing.Playing.{Playing}
 use Rattle.play_lines.specs.Drawing.{IsDrawn}
 use Rattle.play_lines.specs.Shelves.{IsLineFault}

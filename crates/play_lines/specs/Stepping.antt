@@ -11,10 +11,10 @@ use Rattle.play_model.specs.declared.dues.Due.{Due}
 use Rattle.play_model.specs.declared.dues.Due.TheVariants as due
 use Rattle.play_model.specs.Lines.{step_due, stepped}
 use Rattle.play_model.specs.States.{PlayState, world_of}
-use Rattle.play_nodes.specs.declared.connections.Connection.{Connection}
-use Rattle.play_dues.specs.Places.{client_place}
-use Rattle.play_dues.specs.Showing.{HasClient}
-use Rattle.play.specs.declared.faults.PlayFault.{PlayFault}
+use Rattle.play_scripts.specs.PlayNodes.Connection.{Connection}
+use Rattle.play_opening.specs.PlayDues.Places.{client_place}
+use Rattle.play_opening.specs.PlayDues.Showing.{HasClient}
+use Rattle.play_opening.specs.Play.PlayFault.{PlayFault}
 use Rattle.play_lines.specs.declared.playing.Playing.{Playing}
 use Rattle.play_lines.specs.Drawing.{IsCaused, IsDrawn}
 use Rattle.play_lines.specs.Pipelines.{pipeline_at}

@@ -7,7 +7,7 @@ use Rattle.hd_base.specs.declared.numbers.NodeId.{NodeId}
 use Rattle.hd_base.specs.declared.roads.Roads as roads
 use Rattle.play_model.specs.Lines.{stop_at}
 use Rattle.play_model.specs.States.{PlayState}
-use Rattle.play.specs.declared.faults.PlayFault.{PlayFault}
+use Rattle.play_opening.specs.Play.PlayFault.{PlayFault}
 use Rattle.play_lines.specs.declared.playing.Playing.{Playing}
 use Rattle.play_lines.specs.Drawing.{IsCaused, IsDrawn}
 use Rattle.play_lines.specs.Showing.{PlayIs}

@@ -1,14 +1,14 @@
 //! A line asks to read.
 
 ghost use Rattle.play_model.specs.Asks.{request_of};
-ghost use Rattle.play_nodes.specs.Places.{KeepsSizes};
-ghost use Rattle.world_texts.specs.Texts.{CanBeAsked};
+ghost use Rattle.play_scripts.specs.PlayNodes.Places.{KeepsSizes};
+ghost use Rattle.play_scripts.specs.WorldTexts.Texts.{CanBeAsked};
 ghost use Rattle.play_lines.specs.Asking.{Asks, AsksArePlays, ask_in};
 
 use crate::playing::Playing;
 use hd_base::{BlockId, Files, LinkIn, LinkOut, NodeId, Roads};
-use play::PlayFault;
 use play_model::ReadAsk;
+use play_opening::PlayFault;
 
 impl<F: Files, I: LinkIn, O: LinkOut> Playing<F, I, O> {
     /// A reader, which has the line's number, joins the play: it asks for so many bytes of a block at a node, from an

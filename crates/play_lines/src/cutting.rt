@@ -1,7 +1,7 @@
 //! A connection of a block's pipeline is cut.
 
-ghost use Rattle.member_events.specs.Roads.{RoadsPass};
-ghost use Rattle.play_nodes.specs.Places.{KeepsSizes};
+ghost use Rattle.play_scripts.specs.MemberEvents.Roads.{RoadsPass};
+ghost use Rattle.play_scripts.specs.PlayNodes.Places.{KeepsSizes};
 ghost use Rattle.play_lines.specs.Cutting.{CutShows};
 ghost use Rattle.play_lines.specs.Showing.{IsPlaying};
 
@@ -9,9 +9,8 @@ use crate::pipelines::pipeline_conn;
 use crate::playing::Playing;
 use fault_ports::CutRoads;
 use hd_base::{BlockId, Files, LinkIn, LinkOut};
-use play::{PlayFault, worlds_are_lawful};
-use world_cuts::cuts_are_losses;
-use world_orders::takers_are_open;
+use play_opening::{PlayFault, cuts_are_losses, worlds_are_lawful};
+use play_scripts::takers_are_open;
 
 impl<F: Files, I: LinkIn, O: LinkOut> Playing<F, I, O> {
     /// The connection at a place of the block's present pipeline ends: of the messages on their way so many still

@@ -1,18 +1,19 @@
 //! What happens next is drawn.
 
-ghost use Rattle.member_events.specs.Roads.{RoadsPass};
-ghost use Rattle.play_nodes.specs.Places.{KeepsSizes};
+ghost use Rattle.play_scripts.specs.MemberEvents.Roads.{RoadsPass};
+ghost use Rattle.play_scripts.specs.PlayNodes.Places.{KeepsSizes};
 ghost use Rattle.play_lines.specs.Showing.{IsPlaying};
 ghost use Rattle.play_lines.specs.Drawing.{DrawShows, RunShows, SettleShows};
 
 use crate::playing::Playing;
 use hd_base::{Files, LinkIn, LinkOut, Roads};
-use play::{PlayFault, worlds_are_lawful};
-use play_dues::{draw_due, dues_are_listed, live_connections_are_covered, plays_are_drawn};
 use play_model::listed_dues_are_due;
-use play_settling::plays_lower;
+use play_opening::{
+    PlayFault, draw_due, dues_are_listed, live_connections_are_covered, plays_are_drawn,
+    plays_lower, worlds_are_lawful,
+};
+use play_scripts::takers_are_open;
 use std::alloc::Global;
-use world_orders::takers_are_open;
 
 impl<F: Files, I: LinkIn, O: LinkOut> Playing<F, I, O> {
     /// Where something is due, one word of the generator is taken, and what it draws happens. Answers whether something

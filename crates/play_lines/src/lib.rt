@@ -16,6 +16,8 @@ mod stopping;
 
 pub use asking::asks_are_plays;
 pub use ordering::orders_are_plays;
+pub use play_opening::{LiveConns, PlayFault, Said, open_player};
+pub use play_scripts::OpenFault;
 pub use playing::Playing;
 pub use recovering::recovers_are_plays;
 pub use ruling::rules_are_plays;

@@ -1,8 +1,8 @@
 //! The lines of a script are played, one after the other.
 
 ghost use Rattle.std.specs.Prelude.{◌≡◌, false, length, IfOk};
-ghost use Rattle.member_events.specs.Roads.{RoadsPass};
-ghost use Rattle.play_nodes.specs.Places.{KeepsSizes};
+ghost use Rattle.play_scripts.specs.MemberEvents.Roads.{RoadsPass};
+ghost use Rattle.play_scripts.specs.PlayNodes.Places.{KeepsSizes};
 ghost use Rattle.play_scripts.specs.Reads.{is_read};
 ghost use Rattle.play_scripts.specs.Recoveries.{is_recovery};
 ghost use Rattle.play_scripts.specs.Unplayed.{is_start, LineIsTold, LinesAreTold};
@@ -17,8 +17,8 @@ use crate::recovering::recovers_are_plays;
 use crate::ruling::rules_are_plays;
 use fault_ports::CutRoads;
 use hd_base::{BlockId, Files, LinkIn, LinkOut};
-use node_opening::standing_nodes_close;
-use play::PlayFault;
+use play_opening::PlayFault;
+use play_scripts::standing_nodes_close;
 use script_lang::{Instruction, ScriptLine};
 use std::alloc::{AllocError, Global};
 use told_shelves::{ToldShelf, told_shelves_tell};

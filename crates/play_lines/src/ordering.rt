@@ -1,13 +1,12 @@
 //! The clients are given commands.
 
 ghost use Rattle.std.specs.Prelude.{◌≡◌, ◌++◌, [], ◌∷◌, OnOk, IfErr};
-ghost use Rattle.play_nodes.specs.Places.{KeepsSizes};
+ghost use Rattle.play_scripts.specs.PlayNodes.Places.{KeepsSizes};
 ghost use Rattle.play_lines.specs.Ordering.{Orders, OrdersArePlays};
 
 use crate::playing::Playing;
 use hd_base::{BlockId, Files, LinkIn, LinkOut, Roads};
-use play::PlayFault;
-use play_dues::client_of;
+use play_opening::{PlayFault, client_of};
 use std::collections::VecDeque;
 use world::TakenCommand;
 use writer_core::Command;

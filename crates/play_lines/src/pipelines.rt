@@ -4,7 +4,7 @@ ghost use Rattle.std.specs.Prelude.{◌≡◌, length};
 ghost use Rattle.play_lines.specs.Pipelines.{number_of, is_dialled_by, latest_in, mirror_at, conn_at, pipeline_at};
 
 use hd_base::{BlockId, ConnId, Files, LinkIn, LinkOut};
-use play_nodes::{Nodes, Upper};
+use play_scripts::{Nodes, Upper};
 
 /// The connection at a place of a block's present pipeline, if there is one: place 0 is the latest that the writer
 /// dialled, and the next place that of the mirror of the member there.

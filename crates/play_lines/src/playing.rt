@@ -1,8 +1,7 @@
 //! A play so far.
 
 use hd_base::Files;
-use play::Player;
-use play_dues::LiveConns;
+use play_opening::{LiveConns, Player};
 use rand_pcg::Lcg64Xsh32;
 
 /// A play so far.

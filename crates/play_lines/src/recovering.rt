@@ -1,12 +1,12 @@
 //! A line asks to recover.
 
-ghost use Rattle.play_nodes.specs.Places.{KeepsSizes};
+ghost use Rattle.play_scripts.specs.PlayNodes.Places.{KeepsSizes};
 ghost use Rattle.play_lines.specs.Recovering.{Recovers, RecoversArePlays, recovery_in};
 
 use crate::playing::Playing;
 use hd_base::{BlockId, Files, LinkIn, LinkOut, Members, NodeId, Roads};
-use play::PlayFault;
 use play_model::Recovery;
+use play_opening::PlayFault;
 
 impl<F: Files, I: LinkIn, O: LinkOut> Playing<F, I, O> {
     /// A primary, which has the line's number, joins the play: it is to recover a block with these members, at a node,

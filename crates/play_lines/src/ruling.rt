@@ -1,11 +1,11 @@
 //! The rules of sums of the blocks.
 
-ghost use Rattle.play_nodes.specs.Places.{KeepsSizes};
+ghost use Rattle.play_scripts.specs.PlayNodes.Places.{KeepsSizes};
 ghost use Rattle.play_lines.specs.Ruling.{Rules, RulesArePlays};
 
 use crate::playing::Playing;
 use hd_base::{BlockId, Files, LinkIn, LinkOut, Roads, SumRule};
-use play_dues::client_of;
+use play_opening::client_of;
 
 impl<F: Files, I: LinkIn, O: LinkOut> Playing<F, I, O> {
     /// The rule of the sums of a block that is created next. The block has a client.

@@ -1,7 +1,7 @@
 //! A node starts again.
 
 ghost use Rattle.std.specs.Prelude.{◌≡◌, true};
-ghost use Rattle.member_events.specs.Roads.{RoadsPass};
+ghost use Rattle.play_scripts.specs.MemberEvents.Roads.{RoadsPass};
 ghost use Rattle.play_lines.specs.Shelves.{ShelvesServe, ShelvesGoOn};
 ghost use Rattle.play_lines.specs.Showing.{IsPlaying};
 ghost use Rattle.play_lines.specs.Starting.{StartShows};
@@ -9,12 +9,11 @@ ghost use Rattle.play_lines.specs.Starting.{StartShows};
 use crate::playing::Playing;
 use fault_ports::CutRoads;
 use hd_base::{Files, LinkIn, LinkOut, NodeId};
-use node_opening::{fitting_books_are_of_blocks, shown_nodes_fit};
-use node_starts::dials_are_of_lives_so_far;
-use play::{PlayFault, worlds_are_lawful};
+use play_model::replicas_have_their_bytes;
+use play_opening::{PlayFault, dials_are_of_lives_so_far, worlds_are_lawful};
+use play_scripts::{fitting_books_are_of_blocks, shown_nodes_fit};
 use std::alloc::Global;
 use told_shelves::{ToldShelf, told_shelves_tell};
-use world_laws::replicas_have_their_bytes;
 
 impl<F: Files, I: LinkIn, O: LinkOut> Playing<F, I, O> {
     /// A node that doesn't run starts again between two events, over its shelf, which tells its files: it has the books

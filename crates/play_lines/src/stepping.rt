@@ -1,21 +1,19 @@
 //! One event of a block's pipeline happens.
 
 ghost use Rattle.std.specs.Prelude.{◌≡◌};
-ghost use Rattle.member_events.specs.Roads.{RoadsPass};
-ghost use Rattle.play_nodes.specs.Places.{KeepsSizes};
+ghost use Rattle.play_scripts.specs.MemberEvents.Roads.{RoadsPass};
+ghost use Rattle.play_scripts.specs.PlayNodes.Places.{KeepsSizes};
 ghost use Rattle.play_lines.specs.Showing.{IsPlaying};
 ghost use Rattle.play_lines.specs.Stepping.{due_behind, due_for, StepShows, StaysAlone};
 
 use crate::pipelines::pipeline_conn;
 use crate::playing::Playing;
 use hd_base::{BlockId, Files, LinkIn, LinkOut, Roads};
-use play::{PlayFault, worlds_are_lawful};
-use play_dues::{client_of, is_due, live_connections_are_covered};
 use play_model::Due;
-use play_nodes::Nodes;
+use play_opening::{PlayFault, client_of, is_due, live_connections_are_covered, worlds_are_lawful};
+use play_scripts::{Nodes, takers_are_open};
 use script_lang::StepEvent;
 use std::alloc::Global;
-use world_orders::takers_are_open;
 
 impl<F: Files, I: LinkIn, O: LinkOut> Playing<F, I, O> {
     /// One event of the block's present pipeline happens where it is due; else nothing does.

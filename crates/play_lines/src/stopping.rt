@@ -1,14 +1,14 @@
 //! A node stops.
 
-ghost use Rattle.member_events.specs.Roads.{RoadsPass};
-ghost use Rattle.play_nodes.specs.Places.{KeepsSizes};
+ghost use Rattle.play_scripts.specs.MemberEvents.Roads.{RoadsPass};
+ghost use Rattle.play_scripts.specs.PlayNodes.Places.{KeepsSizes};
 ghost use Rattle.play_lines.specs.Stopping.{StopShows};
 ghost use Rattle.play_lines.specs.Showing.{IsPlaying};
 
 use crate::playing::Playing;
 use fault_ports::CutRoads;
 use hd_base::{Files, LinkIn, LinkOut, NodeId};
-use play::{PlayFault, worlds_are_lawful};
+use play_opening::{PlayFault, worlds_are_lawful};
 use std::alloc::Global;
 
 impl<F: Files, I: LinkIn, O: LinkOut> Playing<F, I, O> {

@@ -1,11 +1,11 @@
 -- A reader's own step is enabled while it hasn't begun.
 use Rattle.std.proofs.Common.{◌≡◌, ℕ, Bool, refl}
 use Rattle.std.specs.Prelude.{is_some}
-use Rattle.op_headers.specs.declared.ops.ReadOp.{ReadOp}
-use Rattle.world.specs.Clients.{own_reader_as}
-use Rattle.world.specs.Events.{changed, outcome, is_enabled}
-use Rattle.world.specs.Parts.{Reader, no_reader, reads, has_read}
-use Rattle.world.specs.Worlds.{World}
+use Rattle.world_laws.specs.OpHeaders.ReadOp.{ReadOp}
+use Rattle.world_laws.specs.World.Clients.{own_reader_as}
+use Rattle.world_laws.specs.World.Events.{changed, outcome, is_enabled}
+use Rattle.world_laws.specs.World.Parts.{Reader, no_reader, reads, has_read}
+use Rattle.world_laws.specs.World.Worlds.{World}
 use Rattle.play_model.specs.declared.asks.ReadAsk.{ReadAsk}
 use Rattle.play_model.specs.Asks.{request_of, asking_node}
 use Rattle.play_model.specs.Dues.{is_unbegun}

@@ -3,19 +3,19 @@ use Rattle.std.specs.Prelude.{◌≡◌, ℕ, ◌||◌, ◌&&◌, is_none, if◌
 use Rattle.std.proofs.Common.{refl, ap, ◌∙◌, subst, zero, suc}
 use Rattle.hd_base.specs.declared.numbers.BlockId.{BlockId}
 use Rattle.hd_base.specs.declared.numbers.ConnId.{ConnId}
-use Rattle.writer_core.specs.declared.actions.Action.{Action}
-use Rattle.writer_core.specs.declared.actions.Action.TheVariants as action
-use Rattle.writer_core.specs.Transitions.{own_step}
-use Rattle.world.specs.declared.events.Caller.TheVariants as caller
+use Rattle.world_laws.specs.WriterCore.Action.{Action}
+use Rattle.world_laws.specs.WriterCore.Action.TheVariants as action
+use Rattle.world_laws.specs.WriterCore.Transitions.{own_step}
+use Rattle.world_laws.specs.World.Caller.TheVariants as caller
 use Rattle.name_core.specs.declared.calls.OfficeCall.{OfficeCall}
 use Rattle.name_core.specs.Offices.{answer_to}
-use Rattle.world.specs.declared.events.TakenCommand.{TakenCommand}
-use Rattle.world.specs.Parts.{Told, Writing}
-use Rattle.world.specs.Safe.{Has}
-use Rattle.world.specs.Worlds.{World, apply}
-use Rattle.world.specs.Primaries.{writer_asks}
-use Rattle.world.specs.Events.{happens, outcome, changed, after_event}
-use Rattle.world.specs.Enabled.{acts_with, is_deed, is_question, can_down, can_ready, can_up}
+use Rattle.world_laws.specs.World.TakenCommand.{TakenCommand}
+use Rattle.world_laws.specs.World.Parts.{Told, Writing}
+use Rattle.world_laws.specs.World.Safe.{Has}
+use Rattle.world_laws.specs.World.Worlds.{World, apply}
+use Rattle.world_laws.specs.World.Primaries.{writer_asks}
+use Rattle.world_laws.specs.World.Events.{happens, outcome, changed, after_event}
+use Rattle.world_laws.specs.World.Enabled.{acts_with, is_deed, is_question, can_down, can_ready, can_up}
 use Rattle.world_laws.proofs.FactTables.{and-right}
 use Rattle.world_laws.proofs.StampGivens.{put-here}
 use Rattle.world_laws.proofs.TestLaws.{all-tested}

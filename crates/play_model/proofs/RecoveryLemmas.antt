@@ -10,18 +10,18 @@ use Rattle.name_core.specs.declared.calls.OfficeAnswer.TheVariants as office
 use Rattle.name_core.specs.declared.calls.OfficeCall.TheVariants as call
 use Rattle.name_core.specs.Offices.{OfficeState, office_case, answering, answer_to, begin_case}
 use Rattle.name_core.specs.Steps.{Step, reply}
-use Rattle.recovery_core.specs.declared.primary.OwnStep.{OwnStep}
-use Rattle.recovery_core.specs.declared.primary.OwnStep.TheVariants as step
-use Rattle.recovery_core.specs.Primaries.{own_step, sync_call}
-use Rattle.world.specs.declared.events.Caller.TheVariants as caller
-use Rattle.world.specs.declared.events.Event.TheVariants as event
-use Rattle.world.specs.Parts.{Place, Told, Leading, Primary, no_primary, was_told, leads, has_led}
-use Rattle.world.specs.Worlds.{World, apply}
-use Rattle.world.specs.Clients.{are_members}
-use Rattle.world.specs.Connections.{is_alive}
-use Rattle.world.specs.Enabled.{leads_on, leads_step_on, is_commit, primary_has_asked}
-use Rattle.world.specs.Events.{changed, after_event, outcome, is_enabled, happens}
-use Rattle.world.specs.Primaries.{begins_as, begins_at, own_recover, primary_asks, asks_primary}
+use Rattle.world_laws.specs.RecoveryCore.OwnStep.{OwnStep}
+use Rattle.world_laws.specs.RecoveryCore.OwnStep.TheVariants as step
+use Rattle.world_laws.specs.RecoveryCore.Primaries.{own_step, sync_call}
+use Rattle.world_laws.specs.World.Caller.TheVariants as caller
+use Rattle.world_laws.specs.World.Event.TheVariants as event
+use Rattle.world_laws.specs.World.Parts.{Place, Told, Leading, Primary, no_primary, was_told, leads, has_led}
+use Rattle.world_laws.specs.World.Worlds.{World, apply}
+use Rattle.world_laws.specs.World.Clients.{are_members}
+use Rattle.world_laws.specs.World.Connections.{is_alive}
+use Rattle.world_laws.specs.World.Enabled.{leads_on, leads_step_on, is_commit, primary_has_asked}
+use Rattle.world_laws.specs.World.Events.{changed, after_event, outcome, is_enabled, happens}
+use Rattle.world_laws.specs.World.Primaries.{begins_as, begins_at, own_recover, primary_asks, asks_primary}
 use Rattle.world_laws.proofs.FactTables.{and-left, and-right}
 use Rattle.world_laws.proofs.StampGivens.{put-here}
 use Rattle.world_laws.proofs.TestLaws.{all-tested}

@@ -3,12 +3,12 @@ use Rattle.std.specs.Prelude.{ℕ, Bool}
 use Rattle.hd_base.specs.declared.numbers.BlockId.{BlockId}
 use Rattle.hd_base.specs.declared.numbers.NodeId.{NodeId}
 use Rattle.name_core.specs.Offices.{committed_in}
-use Rattle.op_headers.specs.declared.ops.ReadOp.{ReadOp}
-use Rattle.writer_core.specs.Requests.{pool_name, client_name}
-use Rattle.world.specs.declared.events.Event.{Event}
-use Rattle.world.specs.declared.events.Event.TheVariants as event
-use Rattle.world.specs.declared.events.OwnStep.TheVariants as own
-use Rattle.world.specs.Worlds.{World}
+use Rattle.world_laws.specs.OpHeaders.ReadOp.{ReadOp}
+use Rattle.world_laws.specs.WriterCore.Requests.{pool_name, client_name}
+use Rattle.world_laws.specs.World.Event.{Event}
+use Rattle.world_laws.specs.World.Event.TheVariants as event
+use Rattle.world_laws.specs.World.OwnStep.TheVariants as own
+use Rattle.world_laws.specs.World.Worlds.{World}
 use Rattle.play_model.specs.declared.asks.ReadAsk.{ReadAsk}
 
 -- the request: the block under this stamp, without its length, which a read doesn't say, by the block's client

@@ -1,17 +1,17 @@
 -- What may happen next in a play, and what happens then.
 use Rattle.std.specs.Prelude.{zero, suc, ℕ, ◌&&◌, ◌||◌, is_some, is_none, Bool, true, false, List, [], ◌∷◌, ◌++◌, slice_get, drop, Option, None}
 use Rattle.hd_base.specs.declared.numbers.BlockId.{BlockId}
-use Rattle.writer_core.specs.declared.actions.Action.{Action}
-use Rattle.writer_core.specs.declared.actions.Action.TheVariants as action
-use Rattle.writer_core.specs.Transitions.{own_step, has_step}
-use Rattle.world.specs.declared.events.Caller.TheVariants as caller
-use Rattle.world.specs.declared.events.Event.{Event}
-use Rattle.world.specs.declared.events.Event.TheVariants as event
-use Rattle.world.specs.declared.events.OwnStep.TheVariants as own
-use Rattle.world.specs.declared.events.TakenCommand.{TakenCommand}
-use Rattle.world.specs.Parts.{Upper, by_member, Lower, writes, ended_below, Writing, Reader, no_reader}
-use Rattle.world.specs.Worlds.{World, put}
-use Rattle.world.specs.Enabled.{can_down, can_ready, can_up}
+use Rattle.world_laws.specs.WriterCore.Action.{Action}
+use Rattle.world_laws.specs.WriterCore.Action.TheVariants as action
+use Rattle.world_laws.specs.WriterCore.Transitions.{own_step, has_step}
+use Rattle.world_laws.specs.World.Caller.TheVariants as caller
+use Rattle.world_laws.specs.World.Event.{Event}
+use Rattle.world_laws.specs.World.Event.TheVariants as event
+use Rattle.world_laws.specs.World.OwnStep.TheVariants as own
+use Rattle.world_laws.specs.World.TakenCommand.{TakenCommand}
+use Rattle.world_laws.specs.World.Parts.{Upper, by_member, Lower, writes, ended_below, Writing, Reader, no_reader}
+use Rattle.world_laws.specs.World.Worlds.{World, put}
+use Rattle.world_laws.specs.World.Enabled.{can_down, can_ready, can_up}
 use Rattle.play_model.specs.declared.asks.ReadAsk.{ReadAsk}
 use Rattle.play_model.specs.declared.dues.Due.{Due}
 use Rattle.play_model.specs.declared.dues.Due.TheVariants as due

@@ -1,12 +1,12 @@
 -- What is true of all plays.
 use Rattle.std.specs.Prelude.{◌≡◌, ℕ, ◌||◌, true, List, [], ◌∷◌, slice_get, Some, None}
 use Rattle.script_lang.specs.declared.instructions.ScriptLine.{ScriptLine}
-use Rattle.world.specs.declared.events.Event.{Event}
-use Rattle.world.specs.Safe.{Has}
-use Rattle.world.specs.Worlds.{World}
-use Rattle.world.specs.Clients.{are_members}
-use Rattle.world.specs.Enabled.{is_deed, is_question}
-use Rattle.world.specs.Events.{is_enabled, happens}
+use Rattle.world_laws.specs.World.Event.{Event}
+use Rattle.world_laws.specs.World.Safe.{Has}
+use Rattle.world_laws.specs.World.Worlds.{World}
+use Rattle.world_laws.specs.World.Clients.{are_members}
+use Rattle.world_laws.specs.World.Enabled.{is_deed, is_question}
+use Rattle.world_laws.specs.World.Events.{is_enabled, happens}
 use Rattle.play_model.specs.declared.asks.ReadAsk.{ReadAsk}
 use Rattle.play_model.specs.declared.dues.Due.{Due}
 use Rattle.play_model.specs.declared.dues.Due.TheVariants as due

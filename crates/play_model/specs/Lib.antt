@@ -5,3 +5,8 @@ pub mod Dues
 pub mod Draws
 pub mod Lines
 pub mod Laws
+pub mod ReadCore
+pub mod RecoveryCore
+pub mod World
+pub mod WorldLaws
+pub mod WriterCore

@@ -6,12 +6,12 @@ use Rattle.script_lang.specs.declared.instructions.Instruction.TheVariants as li
 use Rattle.script_lang.specs.declared.instructions.ScriptLine.{ScriptLine}
 use Rattle.script_lang.specs.declared.instructions.StepEvent.{StepEvent}
 use Rattle.script_lang.specs.declared.instructions.StepEvent.TheVariants as step
-use Rattle.writer_core.specs.declared.commands.Command.TheVariants as command
-use Rattle.world.specs.declared.events.Direction.TheVariants as direction
-use Rattle.world.specs.declared.events.Event.{Event}
-use Rattle.world.specs.declared.events.Event.TheVariants as event
-use Rattle.world.specs.Parts.{Upper, by_writer, Lower, writes}
-use Rattle.world.specs.Worlds.{World}
+use Rattle.world_laws.specs.WriterCore.Command.TheVariants as command
+use Rattle.world_laws.specs.World.Direction.TheVariants as direction
+use Rattle.world_laws.specs.World.Event.{Event}
+use Rattle.world_laws.specs.World.Event.TheVariants as event
+use Rattle.world_laws.specs.World.Parts.{Upper, by_writer, Lower, writes}
+use Rattle.world_laws.specs.World.Worlds.{World}
 use Rattle.play_model.specs.declared.dues.Due.{Due}
 use Rattle.play_model.specs.declared.dues.Due.TheVariants as due
 use Rattle.play_model.specs.States.{PlayState, world_of, opened, ordered, ruled, asked, recovering}

@@ -2,16 +2,16 @@
 use Rattle.std.specs.Prelude.{ℕ, ◌&&◌, ◌==◌, if◌then◌else◌, is_none, Bool, true, false, List, [], ◌∷◌, map}
 use Rattle.hd_base.specs.declared.numbers.BlockId.{BlockId}
 use Rattle.hd_base.specs.declared.numbers.NodeId.{NodeId}
-use Rattle.recovery_core.specs.declared.primary.OwnStep.{OwnStep}
-use Rattle.recovery_core.specs.declared.primary.OwnStep.TheVariants as step
-use Rattle.recovery_core.specs.Primaries.{own_step}
-use Rattle.world.specs.declared.events.Caller.TheVariants as caller
-use Rattle.world.specs.declared.events.Event.{Event}
-use Rattle.world.specs.declared.events.Event.TheVariants as event
-use Rattle.world.specs.declared.events.OwnStep.TheVariants as own
-use Rattle.world.specs.Connections.{is_alive}
-use Rattle.world.specs.Parts.{Leading, Primary, no_primary, leads}
-use Rattle.world.specs.Worlds.{World}
+use Rattle.world_laws.specs.RecoveryCore.OwnStep.{OwnStep}
+use Rattle.world_laws.specs.RecoveryCore.OwnStep.TheVariants as step
+use Rattle.world_laws.specs.RecoveryCore.Primaries.{own_step}
+use Rattle.world_laws.specs.World.Caller.TheVariants as caller
+use Rattle.world_laws.specs.World.Event.{Event}
+use Rattle.world_laws.specs.World.Event.TheVariants as event
+use Rattle.world_laws.specs.World.OwnStep.TheVariants as own
+use Rattle.world_laws.specs.World.Connections.{is_alive}
+use Rattle.world_laws.specs.World.Parts.{Leading, Primary, no_primary, leads}
+use Rattle.world_laws.specs.World.Worlds.{World}
 use Rattle.play_model.specs.declared.recoveries.Recovery.{Recovery}
 
 -- WHAT IS DUE

@@ -3,11 +3,11 @@ use Rattle.std.specs.Prelude.{ℕ, List, [], ◌∷◌, ◌++◌}
 use Rattle.hd_base.specs.SumRules.{Rule, default_rule}
 use Rattle.rand_pcg.specs.Lcg.{Lcg, started, increment_of}
 use Rattle.rand_pcg.specs.Pcg.{multiplier_64}
-use Rattle.writer_core.specs.declared.commands.Command.{Command}
-use Rattle.world.specs.declared.events.Event.{Event}
-use Rattle.world.specs.declared.events.TakenCommand.{TakenCommand}
-use Rattle.world.specs.Worlds.{World, start, put, add}
-use Rattle.world.specs.Events.{run}
+use Rattle.world_laws.specs.WriterCore.Command.{Command}
+use Rattle.world_laws.specs.World.Event.{Event}
+use Rattle.world_laws.specs.World.TakenCommand.{TakenCommand}
+use Rattle.world_laws.specs.World.Worlds.{World, start, put, add}
+use Rattle.world_laws.specs.World.Events.{run}
 use Rattle.play_model.specs.declared.asks.ReadAsk.{ReadAsk}
 use Rattle.play_model.specs.declared.recoveries.Recovery.{Recovery}
 

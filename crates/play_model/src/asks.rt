@@ -1,14 +1,13 @@
 //! What a line of a script asks to read.
 
 ghost use Rattle.std.specs.Prelude.{◌≡◌, IfOk};
-ghost use Rattle.writer_core.specs.Requests.{client_name};
+ghost use Rattle.world_laws.specs.WriterCore.Requests.{client_name};
 ghost use Rattle.play_model.specs.Asks.{request_of};
 
 use hd_base::{BlockId, ByteList, NodeId, Stamp};
 use itoa::Buffer;
-use op_headers::{BlockRef, ReadOp};
 use std::alloc::{AllocError, Global};
-use writer_core::POOL;
+use world_laws::{BlockRef, POOL, ReadOp};
 
 /// What a line of a script asks to read.
 #[derive(Clone, Copy, Debug, PartialEq, Eq)]

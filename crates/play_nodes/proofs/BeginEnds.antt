@@ -16,23 +16,23 @@ use Rattle.hd_base.specs.declared.roads.TheConstants.{FIRST_PORT}
 use Rattle.op_headers.specs.declared.nodes.NodeRef.{NodeRef}
 use Rattle.op_headers.specs.declared.ops.Op.TheVariants as op
 use Rattle.op_headers.specs.Values.{WriteFields}
-use Rattle.member_core.specs.Steps.{request_step}
-use Rattle.replica_files.specs.declared.book_state.BookState.{BookState}
-use Rattle.pipe_member.specs.declared.member.Member.{Member}
-use Rattle.pipe_setup.specs.Requests.{first_port}
+use Rattle.member_events.specs.MemberCore.Steps.{request_step}
+use Rattle.member_events.specs.ReplicaFiles.BookState.{BookState}
+use Rattle.member_events.specs.PipeMember.Member.{Member}
+use Rattle.member_events.specs.PipeSetup.Requests.{first_port}
 use Rattle.road_traffic.specs.Showing.{Net}
-use Rattle.world.specs.declared.events.Event.TheVariants as event
-use Rattle.world.specs.Parts.{request, idle}
-use Rattle.world.specs.Worlds.{World, apply}
-use Rattle.world.specs.Connections.{Next, down_taken}
-use Rattle.world.specs.Nodes.{node_of, block_of, replica_at, setup_change, is_asked}
-use Rattle.world.specs.Events.{outcome, happens}
-use Rattle.world_laws.specs.Placing.{Placed}
+use Rattle.play_model.specs.World.Event.TheVariants as event
+use Rattle.play_model.specs.World.Parts.{request, idle}
+use Rattle.play_model.specs.World.Worlds.{World, apply}
+use Rattle.play_model.specs.World.Connections.{Next, down_taken}
+use Rattle.play_model.specs.World.Nodes.{node_of, block_of, replica_at, setup_change, is_asked}
+use Rattle.play_model.specs.World.Events.{outcome, happens}
+use Rattle.play_model.specs.WorldLaws.Placing.{Placed}
 use Rattle.world_orders.proofs.AllOrdered.{next-found}
 use Rattle.world_requests.specs.Requests.{IsAsked, IsAmong}
-use Rattle.world_nets.specs.Drawn.{ComesDown, break_at}
-use Rattle.world_nets.specs.Nets.{IsEndOf, is_over}
-use Rattle.world_nets.proofs.StepLemmas.{followed, changed-over, taken-over}
+use Rattle.member_events.specs.WorldNets.Drawn.{ComesDown, break_at}
+use Rattle.member_events.specs.WorldNets.Nets.{IsEndOf, is_over}
+use Rattle.member_events.proofs.WorldNets.StepLemmas.{followed, changed-over, taken-over}
 use Rattle.play_model.specs.declared.dues.Due.TheVariants as due
 use Rattle.play_model.specs.Dues.{Queues, is_due}
 use Rattle.member_events.specs.declared.beginning.Requested.{Requested}

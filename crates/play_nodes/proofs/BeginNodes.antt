@@ -9,24 +9,24 @@ use Rattle.hd_base.specs.declared.numbers.ConnId.{ConnId}
 use Rattle.hd_base.specs.declared.roads.Roads as roads
 use Rattle.op_headers.specs.declared.ops.Op.TheVariants as op
 use Rattle.road_traffic.specs.Showing.{Net}
-use Rattle.world.specs.declared.events.Event.{Event}
-use Rattle.world.specs.declared.events.Event.TheVariants as event
-use Rattle.world.specs.Parts as parts
-use Rattle.world.specs.Parts.{Message, request, packet, ack, response, read_status, recovery_answer, by_writer, by_member, by_reader, by_primary, idle, ended_below}
-use Rattle.world.specs.Worlds.{World, put_at, apply}
-use Rattle.world.specs.Connections.{Next, message, the_end, down_taken, is_served}
-use Rattle.world.specs.Nodes.{node_of, closing}
-use Rattle.world.specs.Events.{outcome, happens}
-use Rattle.world_laws.proofs.FactTables.{if-each, and-left, and-right}
-use Rattle.world_laws.proofs.StampGivens.{put-there}
+use Rattle.play_model.specs.World.Event.{Event}
+use Rattle.play_model.specs.World.Event.TheVariants as event
+use Rattle.play_model.specs.World.Parts as parts
+use Rattle.play_model.specs.World.Parts.{Message, request, packet, ack, response, read_status, recovery_answer, by_writer, by_member, by_reader, by_primary, idle, ended_below}
+use Rattle.play_model.specs.World.Worlds.{World, put_at, apply}
+use Rattle.play_model.specs.World.Connections.{Next, message, the_end, down_taken, is_served}
+use Rattle.play_model.specs.World.Nodes.{node_of, closing}
+use Rattle.play_model.specs.World.Events.{outcome, happens}
+use Rattle.play_model.proofs.WorldLaws.FactTables.{if-each, and-left, and-right}
+use Rattle.play_model.proofs.WorldLaws.StampGivens.{put-there}
 use Rattle.world_orders.specs.Orders.{Ordered, Purpose, purpose_of, pipeline, comes_down, is_write}
 use Rattle.world_orders.specs.Takes.{TakesInOrder}
 use Rattle.world_orders.proofs.AllOrdered.{next-found}
-use Rattle.world_texts.specs.Texts.{SpellsText, Written}
-use Rattle.world_nets.specs.Nets.{IsEndOf}
-use Rattle.world_nets.specs.Drawn.{ComesDown, IsNoRequest}
-use Rattle.world_nets.proofs.DrawnLemmas.{down-makes}
-use Rattle.world_nets.proofs.StepLemmas.{followed, changed-over, taken-over}
+use Rattle.member_events.specs.WorldTexts.Texts.{SpellsText, Written}
+use Rattle.member_events.specs.WorldNets.Nets.{IsEndOf}
+use Rattle.member_events.specs.WorldNets.Drawn.{ComesDown, IsNoRequest}
+use Rattle.member_events.proofs.WorldNets.DrawnLemmas.{down-makes}
+use Rattle.member_events.proofs.WorldNets.StepLemmas.{followed, changed-over, taken-over}
 use Rattle.play_model.specs.Dues.{is_open}
 use Rattle.play_model.specs.Lines.{mirror_of}
 use Rattle.member_events.specs.Beginning.{IsFirst, CanBegin, HasEnded}

@@ -14,25 +14,25 @@ use Rattle.hd_base.specs.declared.numbers.ConnId.{ConnId}
 use Rattle.hd_base.specs.declared.numbers.NodeId.{NodeId}
 use Rattle.hd_base.specs.declared.roads.Roads as roads
 use Rattle.replica_core.specs.declared.records.ReplicaRecord.{ReplicaRecord}
-use Rattle.replica_model.specs.Rows.{FullReplica}
-use Rattle.replica_files.specs.declared.book_state.BookState.{BookState}
-use Rattle.replica_files.specs.Books.{replica_of}
-use Rattle.member_core.specs.Members.{hears, ready_turn_by}
-use Rattle.pipe_member.specs.declared.member.Member.{Member}
-use Rattle.pipe_member.specs.declared.stages.Stage.{Stage}
-use Rattle.pipe_member.specs.Enabled as members
+use Rattle.member_events.specs.ReplicaModel.Rows.{FullReplica}
+use Rattle.member_events.specs.ReplicaFiles.BookState.{BookState}
+use Rattle.member_events.specs.ReplicaFiles.Books.{replica_of}
+use Rattle.member_events.specs.MemberCore.Members.{hears, ready_turn_by}
+use Rattle.member_events.specs.PipeMember.Member.{Member}
+use Rattle.member_events.specs.PipeMember.Stage.{Stage}
+use Rattle.member_events.specs.PipeMember.Enabled as members
 use Rattle.road_traffic.specs.Showing.{Net, RoadsShow, ShowsStanding, standing_on}
 use Rattle.road_traffic.specs.Traffic.{Traffic, Fits, before_end}
-use Rattle.world.specs.Parts as parts
-use Rattle.world.specs.Parts.{Message, FullMember, by_member, idle, writes}
-use Rattle.world.specs.Worlds.{World}
-use Rattle.world.specs.Connections.{Next, message, the_end, ends_at, next_on, next_down, next_up, is_alive, is_served}
-use Rattle.world.specs.Enabled.{takes_down, acts_below, hears_mirror, takes_above}
-use Rattle.world.specs.Nodes.{node_of, block_of, replica_at, pending_at}
-use Rattle.world_laws.proofs.FactTables.{and-left, and-right}
+use Rattle.play_model.specs.World.Parts as parts
+use Rattle.play_model.specs.World.Parts.{Message, FullMember, by_member, idle, writes}
+use Rattle.play_model.specs.World.Worlds.{World}
+use Rattle.play_model.specs.World.Connections.{Next, message, the_end, ends_at, next_on, next_down, next_up, is_alive, is_served}
+use Rattle.play_model.specs.World.Enabled.{takes_down, acts_below, hears_mirror, takes_above}
+use Rattle.play_model.specs.World.Nodes.{node_of, block_of, replica_at, pending_at}
+use Rattle.play_model.proofs.WorldLaws.FactTables.{and-left, and-right}
 use Rattle.world_orders.specs.Open.{IsOpenBelow}
-use Rattle.world_nets.specs.Nets.{IsRow, IsEndOf, is_over}
-use Rattle.world_nets.specs.Rows.{Row, rows_of, text_of}
+use Rattle.member_events.specs.WorldNets.Nets.{IsRow, IsEndOf, is_over}
+use Rattle.member_events.specs.WorldNets.Rows.{Row, rows_of, text_of}
 use Rattle.play_model.specs.declared.dues.Due.TheVariants as due
 use Rattle.play_model.specs.Dues.{is_open, is_open_above, is_due}
 use Rattle.member_events.specs.Showing.{MirrorShows}

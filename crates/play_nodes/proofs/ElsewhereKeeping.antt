@@ -12,29 +12,29 @@ use Rattle.op_headers.specs.declared.ops.RecoveryOp.{RecoveryOp}
 use Rattle.op_headers.specs.Values.{WriteFields}
 use Rattle.replica_core.specs.declared.events.Event.{Event}
 use Rattle.replica_core.specs.Views.{rule_in}
-use Rattle.replica_model.specs.declared.events.ReplicaEvent.{ReplicaEvent}
-use Rattle.replica_model.specs.declared.events.ReplicaEvent.TheVariants as replica_event
-use Rattle.replica_model.specs.Rows.{FullReplica}
-use Rattle.request_refusals.specs.declared.refusals.RequestRefusal.{RequestRefusal}
-use Rattle.member_core.specs.declared.effects.Shuts.{Shuts}
-use Rattle.member_core.specs.declared.effects.Shuts.TheVariants as shuts
-use Rattle.member_core.specs.declared.turns.Turn.{Turn}
-use Rattle.member_core.specs.Members.{MemberState, down_turn, up_turn, hears}
-use Rattle.member_core.specs.Requests.{request_event}
-use Rattle.member_core.specs.Steps.{Step, Setup, step, faulted_step, oldest_at, ready_turn_at, request_step, faulted_request}
-use Rattle.read_core.specs.Servings.{ServingState, accepting, refusing, faulted_read, faulted_piece, next_call, piece_at, read_at, read_event}
-use Rattle.recovery_core.specs.declared.members.RecoveryReply.{RecoveryReply}
-use Rattle.recovery_core.specs.Members.{Served, answer_of, recovery_event, serve, serve_faulted}
-use Rattle.world.specs.declared.events.Event as happening
-use Rattle.world.specs.declared.events.Event.TheVariants as event
-use Rattle.world.specs.Parts.{Message, request, packet, ack, response, read_status, recovery_answer, Upper, by_member, Dialled, FullMember, Lower, idle, writes, serves, recovers, ended_below, Break, Marks}
-use Rattle.world.specs.Worlds.{World, Change, Dial, apply, dial_at, listed, shut_marks, downs_with, ups_with}
-use Rattle.world.specs.Connections.{Next, message, the_end, next_down, next_up, down_taken, up_taken, is_served, is_alive, sent_on, is_conn, marks_taken}
-use Rattle.world.specs.Nodes.{replica_at, node_of, block_of, broke_at, is_asked, passed, sent_up, below_of, closing, unless_failing, above_of, shut_by, member_change, failing_turn, turn_change, takes_next, pending_at, member_down, member_up, ready_change, setup_change, failing_write, write_request, breaking, read_change, failing_read, read_request, piece_as, serve_change, recovery_change, failing_recovery, recovery_request, first_message, next_recovery, lower_down, lower_ready, mirror_up}
-use Rattle.world.specs.Events.{changed, outcome, after_event, happens, upper_up, up_as, down_as}
-use Rattle.world_laws.proofs.FactTables.{if-each, when-each}
-use Rattle.world_laws.proofs.GrowthLaws.{apply-grows}
-use Rattle.world_laws.proofs.StampGivens.{put-there}
+use Rattle.member_events.specs.ReplicaModel.ReplicaEvent.{ReplicaEvent}
+use Rattle.member_events.specs.ReplicaModel.ReplicaEvent.TheVariants as replica_event
+use Rattle.member_events.specs.ReplicaModel.Rows.{FullReplica}
+use Rattle.member_events.specs.RequestRefusals.RequestRefusal.{RequestRefusal}
+use Rattle.member_events.specs.MemberCore.Shuts.{Shuts}
+use Rattle.member_events.specs.MemberCore.Shuts.TheVariants as shuts
+use Rattle.member_events.specs.MemberCore.Turn.{Turn}
+use Rattle.member_events.specs.MemberCore.Members.{MemberState, down_turn, up_turn, hears}
+use Rattle.member_events.specs.MemberCore.Requests.{request_event}
+use Rattle.member_events.specs.MemberCore.Steps.{Step, Setup, step, faulted_step, oldest_at, ready_turn_at, request_step, faulted_request}
+use Rattle.play_model.specs.ReadCore.Servings.{ServingState, accepting, refusing, faulted_read, faulted_piece, next_call, piece_at, read_at, read_event}
+use Rattle.play_model.specs.RecoveryCore.RecoveryReply.{RecoveryReply}
+use Rattle.play_model.specs.RecoveryCore.Members.{Served, answer_of, recovery_event, serve, serve_faulted}
+use Rattle.play_model.specs.World.Event as happening
+use Rattle.play_model.specs.World.Event.TheVariants as event
+use Rattle.play_model.specs.World.Parts.{Message, request, packet, ack, response, read_status, recovery_answer, Upper, by_member, Dialled, FullMember, Lower, idle, writes, serves, recovers, ended_below, Break, Marks}
+use Rattle.play_model.specs.World.Worlds.{World, Change, Dial, apply, dial_at, listed, shut_marks, downs_with, ups_with}
+use Rattle.play_model.specs.World.Connections.{Next, message, the_end, next_down, next_up, down_taken, up_taken, is_served, is_alive, sent_on, is_conn, marks_taken}
+use Rattle.play_model.specs.World.Nodes.{replica_at, node_of, block_of, broke_at, is_asked, passed, sent_up, below_of, closing, unless_failing, above_of, shut_by, member_change, failing_turn, turn_change, takes_next, pending_at, member_down, member_up, ready_change, setup_change, failing_write, write_request, breaking, read_change, failing_read, read_request, piece_as, serve_change, recovery_change, failing_recovery, recovery_request, first_message, next_recovery, lower_down, lower_ready, mirror_up}
+use Rattle.play_model.specs.World.Events.{changed, outcome, after_event, happens, upper_up, up_as, down_as}
+use Rattle.play_model.proofs.WorldLaws.FactTables.{if-each, when-each}
+use Rattle.play_model.proofs.WorldLaws.GrowthLaws.{apply-grows}
+use Rattle.play_model.proofs.WorldLaws.StampGivens.{put-there}
 use Rattle.world_orders.specs.Orders.{Ordered, IsMirror, MirrorIs}
 use Rattle.play_nodes.specs.Elsewhere.{SameConn, KeepsElsewhere}
 use Rattle.play_nodes.specs.Showing.{is_pipeline, IsOfPipeline}

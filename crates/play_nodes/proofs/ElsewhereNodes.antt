@@ -3,13 +3,13 @@ use Rattle.std.proofs.Common.{◌≡◌, ◌<◌, ℕ, Bool, true, false, List, 
 use Rattle.hd_base.specs.declared.links.LinkIn as link_in
 use Rattle.hd_base.specs.declared.links.LinkOut as link_out
 use Rattle.hd_base.specs.declared.numbers.BlockId.{BlockId}
-use Rattle.replica_files.specs.declared.book_state.BookState.{BookState}
-use Rattle.replica_files.specs.Books.{replica_of}
+use Rattle.member_events.specs.ReplicaFiles.BookState.{BookState}
+use Rattle.member_events.specs.ReplicaFiles.Books.{replica_of}
 use Rattle.road_traffic.specs.Showing.{Net}
-use Rattle.world.specs.Parts as parts
-use Rattle.world.specs.Parts.{Message, idle, writes, serves, recovers, ended_below}
-use Rattle.world.specs.Worlds.{World}
-use Rattle.world.specs.Nodes.{node_of}
+use Rattle.play_model.specs.World.Parts as parts
+use Rattle.play_model.specs.World.Parts.{Message, idle, writes, serves, recovers, ended_below}
+use Rattle.play_model.specs.World.Worlds.{World}
+use Rattle.play_model.specs.World.Nodes.{node_of}
 use Rattle.world_orders.specs.Orders.{Ordered, IsBelow}
 use Rattle.play_model.specs.Lines.{mirror_of}
 use Rattle.play_nodes.specs.declared.connections.Connection.{Connection}

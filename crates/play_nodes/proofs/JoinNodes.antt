@@ -14,22 +14,22 @@ use Rattle.hd_base.specs.declared.roads.Roads as roads
 use Rattle.hd_base.specs.declared.roads.TheConstants.{FIRST_PORT}
 use Rattle.op_headers.specs.declared.nodes.NodeRef.{NodeRef}
 use Rattle.op_headers.specs.Values.{WriteFields}
-use Rattle.member_core.specs.Steps.{Setup}
-use Rattle.replica_files.specs.declared.book_state.BookState.{BookState}
-use Rattle.replica_files.specs.Books.{replica_of}
-use Rattle.pipe_member.specs.declared.member.Member.{Member}
+use Rattle.member_events.specs.MemberCore.Steps.{Setup}
+use Rattle.member_events.specs.ReplicaFiles.BookState.{BookState}
+use Rattle.member_events.specs.ReplicaFiles.Books.{replica_of}
+use Rattle.member_events.specs.PipeMember.Member.{Member}
 use Rattle.road_traffic.specs.Showing.{Net}
-use Rattle.world.specs.declared.events.Event.{Event}
-use Rattle.world.specs.Parts as parts
-use Rattle.world.specs.Parts.{Break, Dialled, FullMember, Place, by_member, idle, writes, ended_below}
-use Rattle.world.specs.Worlds.{World, apply}
-use Rattle.world.specs.Connections.{is_alive, is_served, place_of}
-use Rattle.world.specs.Nodes.{node_of, block_of, setup_change, lower_of, member_dials, mirror_node}
-use Rattle.world.specs.Events.{outcome, happens}
-use Rattle.world_laws.specs.Placing.{Placed}
-use Rattle.world_laws.proofs.StampGivens.{put-there}
+use Rattle.play_model.specs.World.Event.{Event}
+use Rattle.play_model.specs.World.Parts as parts
+use Rattle.play_model.specs.World.Parts.{Break, Dialled, FullMember, Place, by_member, idle, writes, ended_below}
+use Rattle.play_model.specs.World.Worlds.{World, apply}
+use Rattle.play_model.specs.World.Connections.{is_alive, is_served, place_of}
+use Rattle.play_model.specs.World.Nodes.{node_of, block_of, setup_change, lower_of, member_dials, mirror_node}
+use Rattle.play_model.specs.World.Events.{outcome, happens}
+use Rattle.play_model.specs.WorldLaws.Placing.{Placed}
+use Rattle.play_model.proofs.WorldLaws.StampGivens.{put-there}
 use Rattle.world_orders.specs.Orders.{Ordered}
-use Rattle.world_nets.specs.Nets.{IsEndOf, is_over}
+use Rattle.member_events.specs.WorldNets.Nets.{IsEndOf, is_over}
 use Rattle.play_model.specs.Dues.{is_open}
 use Rattle.play_model.specs.Lines.{mirror_of}
 use Rattle.member_events.specs.Joining.{LeftJoins, MemberJoins, MirrorDialled}

@@ -6,15 +6,15 @@ use Rattle.hd_base.specs.declared.links.LinkIn as link_in
 use Rattle.hd_base.specs.declared.links.LinkOut as link_out
 use Rattle.hd_base.specs.declared.numbers.BlockId.{BlockId}
 use Rattle.hd_base.specs.declared.numbers.NodeId.{NodeId}
-use Rattle.link_messages.specs.Incomings.{IncomingState}
-use Rattle.pipe_member.specs.declared.member.Member.{Member}
+use Rattle.member_events.specs.LinkMessages.Incomings.{IncomingState}
+use Rattle.member_events.specs.PipeMember.Member.{Member}
 use Rattle.road_traffic.specs.Showing.{Net}
-use Rattle.world.specs.Parts as parts
-use Rattle.world.specs.Parts.{Dialled, by_writer, by_member, FullMember, idle, writes}
-use Rattle.world.specs.Worlds.{World}
-use Rattle.world.specs.Connections.{is_served}
-use Rattle.world_nets.specs.Ends.{IsElsewhere}
-use Rattle.world_nets.specs.Nets.{IsEndOf}
+use Rattle.play_model.specs.World.Parts as parts
+use Rattle.play_model.specs.World.Parts.{Dialled, by_writer, by_member, FullMember, idle, writes}
+use Rattle.play_model.specs.World.Worlds.{World}
+use Rattle.play_model.specs.World.Connections.{is_served}
+use Rattle.member_events.specs.WorldNets.Ends.{IsElsewhere}
+use Rattle.member_events.specs.WorldNets.Nets.{IsEndOf}
 use Rattle.world_orders.specs.Orders.{Ordered, WriterIs}
 use Rattle.member_events.specs.Showing.{MirrorShows, NoneReceived, MemberShows}
 use Rattle.play_model.specs.Dues.{is_open}

@@ -6,9 +6,9 @@ use Rattle.hd_base.specs.declared.links.LinkIn as link_in
 use Rattle.hd_base.specs.declared.links.LinkOut as link_out
 use Rattle.hd_base.specs.declared.numbers.NodeId.{NodeId}
 use Rattle.road_traffic.specs.Showing.{Net}
-use Rattle.world.specs.Parts as parts
-use Rattle.world.specs.Primaries.{numbered}
-use Rattle.world.specs.Worlds.{World}
+use Rattle.play_model.specs.World.Parts as parts
+use Rattle.play_model.specs.World.Primaries.{numbered}
+use Rattle.play_model.specs.World.Worlds.{World}
 use Rattle.play_model.specs.Lines.{mirror_of}
 use Rattle.play_nodes.specs.declared.connections.Connection.{Connection}
 use Rattle.play_nodes.specs.declared.connections.Lower.TheVariants as lower

@@ -20,3 +20,5 @@ pub mod ElsewhereNodes
 pub mod PipelineDials
 pub mod ElsewhereKeeping
 pub mod ElsewhereWriters
+pub mod MemberEvents
+pub mod WorldLaws

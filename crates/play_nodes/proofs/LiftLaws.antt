@@ -5,14 +5,14 @@ use Rattle.hd_base.specs.declared.ends.Conn.{Conn}
 use Rattle.hd_base.specs.declared.links.LinkIn as link_in
 use Rattle.hd_base.specs.declared.links.LinkOut as link_out
 use Rattle.hd_base.specs.declared.roads.Roads as roads
-use Rattle.pipe_member.specs.declared.member.Member.{Member}
-use Rattle.pipe_member.specs.Exchanges.{AreKnown}
+use Rattle.member_events.specs.PipeMember.Member.{Member}
+use Rattle.member_events.specs.PipeMember.Exchanges.{AreKnown}
 use Rattle.road_traffic.specs.Showing.{Net}
-use Rattle.world.specs.Parts as parts
-use Rattle.world.specs.Parts.{idle}
-use Rattle.world.specs.Worlds.{World}
-use Rattle.world_nets.specs.Nets.{IsEndOf}
-use Rattle.replica_files.specs.declared.book_state.BookState.{BookState}
+use Rattle.play_model.specs.World.Parts as parts
+use Rattle.play_model.specs.World.Parts.{idle}
+use Rattle.play_model.specs.World.Worlds.{World}
+use Rattle.member_events.specs.WorldNets.Nets.{IsEndOf}
+use Rattle.member_events.specs.ReplicaFiles.BookState.{BookState}
 use Rattle.play_nodes.specs.declared.connections.Connection.{Connection}
 use Rattle.play_nodes.specs.declared.connections.Lower.{Lower}
 use Rattle.play_nodes.specs.declared.connections.Lower.TheVariants as lower

@@ -9,18 +9,18 @@ use Rattle.hd_base.specs.declared.numbers.NodeId.{NodeId}
 use Rattle.hd_base.specs.declared.links.LinkIn as link_in
 use Rattle.hd_base.specs.declared.links.LinkOut as link_out
 use Rattle.hd_base.specs.declared.roads.Roads as roads
-use Rattle.replica_files.specs.declared.book_state.BookState.{BookState}
-use Rattle.replica_files.specs.Books.{replica_of}
-use Rattle.pipe_member.specs.declared.member.Member.{Member}
-use Rattle.pipe_member.specs.Exchanges.{AreKnown}
+use Rattle.member_events.specs.ReplicaFiles.BookState.{BookState}
+use Rattle.member_events.specs.ReplicaFiles.Books.{replica_of}
+use Rattle.member_events.specs.PipeMember.Member.{Member}
+use Rattle.member_events.specs.PipeMember.Exchanges.{AreKnown}
 use Rattle.road_traffic.specs.Showing.{Net, RoadsShow}
-use Rattle.world.specs.Parts as parts
-use Rattle.world.specs.Parts.{FullMember, writes}
-use Rattle.world.specs.Worlds.{World}
-use Rattle.world.specs.Connections.{is_served}
-use Rattle.world.specs.Nodes.{node_of, block_of}
-use Rattle.world_laws.proofs.FactTables.{and-left, and-right}
-use Rattle.world_nets.specs.Nets.{is_over}
+use Rattle.play_model.specs.World.Parts as parts
+use Rattle.play_model.specs.World.Parts.{FullMember, writes}
+use Rattle.play_model.specs.World.Worlds.{World}
+use Rattle.play_model.specs.World.Connections.{is_served}
+use Rattle.play_model.specs.World.Nodes.{node_of, block_of}
+use Rattle.play_model.proofs.WorldLaws.FactTables.{and-left, and-right}
+use Rattle.member_events.specs.WorldNets.Nets.{is_over}
 use Rattle.world_orders.specs.Orders.{Ordered}
 use Rattle.member_events.specs.Showing.{MirrorShows, MemberShows, MemberStands, MemberLeft, LeftShows}
 use Rattle.play_model.specs.Dues.{is_open}

@@ -8,18 +8,18 @@ use Rattle.hd_base.specs.declared.numbers.ConnId.{ConnId}
 use Rattle.hd_base.specs.declared.numbers.NodeId.{NodeId}
 use Rattle.hd_base.specs.declared.links.LinkIn as link_in
 use Rattle.hd_base.specs.declared.links.LinkOut as link_out
-use Rattle.replica_files.specs.declared.book_state.BookState.{BookState}
-use Rattle.replica_files.specs.Books.{replica_of}
-use Rattle.pipe_member.specs.declared.member.Member.{Member}
+use Rattle.member_events.specs.ReplicaFiles.BookState.{BookState}
+use Rattle.member_events.specs.ReplicaFiles.Books.{replica_of}
+use Rattle.member_events.specs.PipeMember.Member.{Member}
 use Rattle.road_traffic.specs.Showing.{Net}
-use Rattle.link_messages.specs.Incomings.{IncomingState}
-use Rattle.world.specs.Parts as parts
-use Rattle.world.specs.Parts.{Dialled, by_writer, by_member, FullMember, idle, writes, serves, recovers, ended_below}
-use Rattle.world.specs.Worlds.{World}
-use Rattle.world.specs.Connections.{is_served}
-use Rattle.world.specs.Nodes.{node_of}
-use Rattle.world_nets.specs.Nets.{is_over}
-use Rattle.member_core.specs.Members.{MemberState}
+use Rattle.member_events.specs.LinkMessages.Incomings.{IncomingState}
+use Rattle.play_model.specs.World.Parts as parts
+use Rattle.play_model.specs.World.Parts.{Dialled, by_writer, by_member, FullMember, idle, writes, serves, recovers, ended_below}
+use Rattle.play_model.specs.World.Worlds.{World}
+use Rattle.play_model.specs.World.Connections.{is_served}
+use Rattle.play_model.specs.World.Nodes.{node_of}
+use Rattle.member_events.specs.WorldNets.Nets.{is_over}
+use Rattle.member_events.specs.MemberCore.Members.{MemberState}
 use Rattle.world_orders.specs.Orders.{Ordered, IsMirror, MirrorIs}
 use Rattle.member_events.specs.Showing.{MirrorShows, NoneReceived, MemberShows, IsLater, IsNoneOf, OthersStay}
 use Rattle.play_model.specs.Lines.{mirror_of}

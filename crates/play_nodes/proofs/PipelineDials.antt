@@ -1,12 +1,12 @@
 -- The dials of writers and members are of pipelines.
 use Rattle.std.proofs.Common.{◌≡◌, ◌<◌, ◌≤◌, ◌+◌, ◌-◌, ℕ, zero, suc, true, List, [], ◌∷◌, length, slice_get, Option, Some, None, refl, sym, ap, ◌∙◌, arith}
 use Rattle.op_headers.specs.Values.{WriteFields}
-use Rattle.member_core.specs.declared.member.Mirror.{Mirror}
-use Rattle.member_core.specs.declared.member.Mirror.TheVariants as mirror
-use Rattle.member_core.specs.Members.{MemberState}
-use Rattle.world.specs.Nodes.{mirror_dial, dials_of, member_dials}
-use Rattle.world.specs.Parts.{Dialled}
-use Rattle.world.specs.Worlds.{World, Change, Dial, dialled_with}
+use Rattle.member_events.specs.MemberCore.Mirror.{Mirror}
+use Rattle.member_events.specs.MemberCore.Mirror.TheVariants as mirror
+use Rattle.member_events.specs.MemberCore.Members.{MemberState}
+use Rattle.play_model.specs.World.Nodes.{mirror_dial, dials_of, member_dials}
+use Rattle.play_model.specs.World.Parts.{Dialled}
+use Rattle.play_model.specs.World.Worlds.{World, Change, Dial, dialled_with}
 use Rattle.world_orders.proofs.Lists.{dialled-here}
 use Rattle.play_nodes.specs.Showing.{is_pipeline}
 use Rattle.play_nodes.proofs.Tables.{element}

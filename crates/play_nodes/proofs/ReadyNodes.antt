@@ -7,26 +7,26 @@ use Rattle.hd_base.specs.declared.links.LinkIn as link_in
 use Rattle.hd_base.specs.declared.links.LinkOut as link_out
 use Rattle.hd_base.specs.declared.numbers.ConnId.{ConnId}
 use Rattle.hd_base.specs.declared.roads.Roads as roads
-use Rattle.replica_files.specs.declared.book_state.BookState.{BookState}
-use Rattle.member_core.specs.Steps.{Step, step, ready_turn_at}
-use Rattle.pipe_member.specs.declared.member.Member.{Member}
+use Rattle.member_events.specs.ReplicaFiles.BookState.{BookState}
+use Rattle.member_events.specs.MemberCore.Steps.{Step, step, ready_turn_at}
+use Rattle.member_events.specs.PipeMember.Member.{Member}
 use Rattle.road_traffic.specs.Showing.{Net}
-use Rattle.world.specs.declared.events.Event.{Event}
-use Rattle.world.specs.declared.events.Event.TheVariants as event
-use Rattle.world.specs.Parts as parts
-use Rattle.world.specs.Parts.{FullMember, idle, writes, Break}
-use Rattle.world.specs.Worlds.{World, apply}
-use Rattle.world.specs.Connections.{is_served, is_alive, the_end}
-use Rattle.world.specs.Nodes.{node_of, block_of, replica_at, member_change}
-use Rattle.world.specs.Enabled.{acts_below}
-use Rattle.world.specs.Events.{outcome, happens}
-use Rattle.world_laws.specs.Placing.{Placed}
-use Rattle.world_laws.proofs.FactTables.{and-left, and-right}
+use Rattle.play_model.specs.World.Event.{Event}
+use Rattle.play_model.specs.World.Event.TheVariants as event
+use Rattle.play_model.specs.World.Parts as parts
+use Rattle.play_model.specs.World.Parts.{FullMember, idle, writes, Break}
+use Rattle.play_model.specs.World.Worlds.{World, apply}
+use Rattle.play_model.specs.World.Connections.{is_served, is_alive, the_end}
+use Rattle.play_model.specs.World.Nodes.{node_of, block_of, replica_at, member_change}
+use Rattle.play_model.specs.World.Enabled.{acts_below}
+use Rattle.play_model.specs.World.Events.{outcome, happens}
+use Rattle.play_model.specs.WorldLaws.Placing.{Placed}
+use Rattle.play_model.proofs.WorldLaws.FactTables.{and-left, and-right}
 use Rattle.world_orders.specs.Orders.{Ordered}
-use Rattle.world_nets.specs.Nets.{is_over}
-use Rattle.world_nets.specs.Drawn.{break_at}
-use Rattle.world_nets.proofs.DrawnLemmas.{ready-makes}
-use Rattle.world_nets.proofs.StepLemmas.{followed, changed-over}
+use Rattle.member_events.specs.WorldNets.Nets.{is_over}
+use Rattle.member_events.specs.WorldNets.Drawn.{break_at}
+use Rattle.member_events.proofs.WorldNets.DrawnLemmas.{ready-makes}
+use Rattle.member_events.proofs.WorldNets.StepLemmas.{followed, changed-over}
 use Rattle.play_model.specs.Dues.{Queues, is_open, is_due}
 use Rattle.play_model.specs.declared.dues.Due.TheVariants as due
 use Rattle.member_events.specs.declared.faults.MemberFault.{MemberFault}

@@ -1,9 +1,9 @@
 -- Blocks stay, and so does how many books each node has.
 use Rattle.std.proofs.Common.{◌≡◌, ℕ, zero, suc, List, [], ◌∷◌, length, slice_get, slice_set, Option, Some, Result, Ok, Err, refl, sym, ap, ◌∙◌, length-set}
 use Rattle.member_events.specs.declared.faults.MemberFault.{MemberFault}
-use Rattle.pipe_member.specs.declared.member.Member.{Member}
+use Rattle.member_events.specs.PipeMember.Member.{Member}
 use Rattle.hd_base.specs.declared.ends.Conn.{Conn}
-use Rattle.replica_files.specs.declared.book_state.BookState.{BookState}
+use Rattle.member_events.specs.ReplicaFiles.BookState.{BookState}
 use Rattle.play_nodes.specs.declared.faults.NodesFault.{NodesFault}
 use Rattle.play_nodes.specs.declared.nodes.NodeBooks.{NodeBooks}
 use Rattle.play_nodes.specs.declared.nodes.Nodes.{Nodes}

@@ -2,9 +2,9 @@
 use Rattle.std.proofs.Common.{◌≡◌, ℕ, zero, suc, ◌<◌, Bool, true, false, if◌then◌else◌, List, [], ◌∷◌, length, slice_get, slice_set, option_map, Some, None, ◌⊎◌, inl, inr, refl, sym, ap, arith, eqb-true, ◌+◌, ◌++◌}
 use Rattle.std.specs.Prelude.{◌==◌, ◌&&◌, unwrap_or}
 use Rattle.std.proofs.lemmas.Bool.{eqb-false}
-use Rattle.world.specs.Parts.{Dialled}
-use Rattle.world.specs.Worlds.{Dial, put_at}
-use Rattle.world_laws.proofs.FactTables.{if-each, and-left, and-right}
+use Rattle.play_model.specs.World.Parts.{Dialled}
+use Rattle.play_model.specs.World.Worlds.{Dial, put_at}
+use Rattle.play_model.proofs.WorldLaws.FactTables.{if-each, and-left, and-right}
 
 -- LISTS
 

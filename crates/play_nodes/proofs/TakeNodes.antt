@@ -7,34 +7,34 @@ use Rattle.hd_base.specs.declared.links.LinkIn as link_in
 use Rattle.hd_base.specs.declared.links.LinkOut as link_out
 use Rattle.hd_base.specs.declared.numbers.ConnId.{ConnId}
 use Rattle.hd_base.specs.declared.roads.Roads as roads
-use Rattle.replica_files.specs.declared.book_state.BookState.{BookState}
-use Rattle.member_core.specs.declared.member.Mirror.{Mirror}
-use Rattle.member_core.specs.declared.member.Mirror.TheVariants as mirror
-use Rattle.member_core.specs.Members.{hears}
-use Rattle.member_core.specs.Steps.{down_step, up_step}
-use Rattle.pipe_member.specs.declared.member.Member.{Member}
-use Rattle.pipe_member.specs.Steps as members
+use Rattle.member_events.specs.ReplicaFiles.BookState.{BookState}
+use Rattle.member_events.specs.MemberCore.Mirror.{Mirror}
+use Rattle.member_events.specs.MemberCore.Mirror.TheVariants as mirror
+use Rattle.member_events.specs.MemberCore.Members.{hears}
+use Rattle.member_events.specs.MemberCore.Steps.{down_step, up_step}
+use Rattle.member_events.specs.PipeMember.Member.{Member}
+use Rattle.member_events.specs.PipeMember.Steps as members
 use Rattle.road_traffic.specs.Showing.{Net}
-use Rattle.world.specs.declared.events.Event.TheVariants as event
-use Rattle.world.specs.Parts as parts
-use Rattle.world.specs.Parts.{Message, request, packet, ack, response, read_status, recovery_answer, FullMember, by_writer, by_member, by_reader, by_primary, idle, writes}
-use Rattle.world.specs.Worlds.{World, apply}
-use Rattle.world.specs.Connections.{Next, message, the_end, next_down, next_up, down_taken, up_taken, is_served, is_alive}
-use Rattle.world.specs.Nodes.{block_of, replica_at, pending_at, takes_next, above_of, below_of}
-use Rattle.world.specs.Enabled.{takes_below, takes_down, hears_mirror, takes_above}
-use Rattle.world.specs.Events.{happens}
-use Rattle.world_laws.specs.Placing.{IsUpper, Placed}
-use Rattle.world_laws.proofs.FactTables.{and-left, and-right}
+use Rattle.play_model.specs.World.Event.TheVariants as event
+use Rattle.play_model.specs.World.Parts as parts
+use Rattle.play_model.specs.World.Parts.{Message, request, packet, ack, response, read_status, recovery_answer, FullMember, by_writer, by_member, by_reader, by_primary, idle, writes}
+use Rattle.play_model.specs.World.Worlds.{World, apply}
+use Rattle.play_model.specs.World.Connections.{Next, message, the_end, next_down, next_up, down_taken, up_taken, is_served, is_alive}
+use Rattle.play_model.specs.World.Nodes.{block_of, replica_at, pending_at, takes_next, above_of, below_of}
+use Rattle.play_model.specs.World.Enabled.{takes_below, takes_down, hears_mirror, takes_above}
+use Rattle.play_model.specs.World.Events.{happens}
+use Rattle.play_model.specs.WorldLaws.Placing.{IsUpper, Placed}
+use Rattle.play_model.proofs.WorldLaws.FactTables.{and-left, and-right}
 use Rattle.world_orders.specs.Orders as orders
 use Rattle.world_orders.specs.Orders.{Ordered, purpose_of, IsBelow, comes_up, pipeline, is_packet}
 use Rattle.world_orders.specs.Takes as takes
 use Rattle.world_orders.specs.Takes.{TakesInOrder}
 use Rattle.world_orders.proofs.AllOrdered.{next-found}
-use Rattle.world_texts.specs.Texts.{SpellsText, Written}
-use Rattle.world_nets.specs.Nets.{is_over}
-use Rattle.world_nets.specs.Drawn.{break_at, goes_down, goes_up, ComesDown, ComesUp, HearsMirror}
-use Rattle.world_nets.proofs.DrawnLemmas.{down-makes, up-makes}
-use Rattle.world_nets.proofs.StepLemmas.{followed, changed-over, taken-over}
+use Rattle.member_events.specs.WorldTexts.Texts.{SpellsText, Written}
+use Rattle.member_events.specs.WorldNets.Nets.{is_over}
+use Rattle.member_events.specs.WorldNets.Drawn.{break_at, goes_down, goes_up, ComesDown, ComesUp, HearsMirror}
+use Rattle.member_events.proofs.WorldNets.DrawnLemmas.{down-makes, up-makes}
+use Rattle.member_events.proofs.WorldNets.StepLemmas.{followed, changed-over, taken-over}
 use Rattle.play_model.specs.Dues.{Queues, is_open, is_open_above, is_due}
 use Rattle.play_model.specs.declared.dues.Due.TheVariants as due
 use Rattle.member_events.specs.declared.faults.MemberFault.{MemberFault}

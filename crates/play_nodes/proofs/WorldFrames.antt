@@ -1,15 +1,15 @@
 -- What a step of a member leaves of the world as it is.
 use Rattle.std.proofs.Common.{◌≡◌, ◌<◌, ◌≤◌, ℕ, ◌-◌, Bool, true, false, Option, Some, refl, sym, ap, ◌∙◌, subst, arith}
 use Rattle.std.specs.Prelude.{nat_le}
-use Rattle.member_core.specs.Steps.{Step}
-use Rattle.world.specs.declared.events.Event.{Event}
-use Rattle.world.specs.Parts.{FullMember, writes, Break}
-use Rattle.world.specs.Worlds.{World, apply}
-use Rattle.world.specs.Connections.{Next, down_taken, up_taken}
-use Rattle.world.specs.Nodes.{node_of, block_of, member_change}
-use Rattle.world.specs.Events.{outcome, happens}
-use Rattle.world_nets.specs.Changes.{world_taken}
-use Rattle.world_laws.proofs.StampGivens.{put-there}
+use Rattle.member_events.specs.MemberCore.Steps.{Step}
+use Rattle.play_model.specs.World.Event.{Event}
+use Rattle.play_model.specs.World.Parts.{FullMember, writes, Break}
+use Rattle.play_model.specs.World.Worlds.{World, apply}
+use Rattle.play_model.specs.World.Connections.{Next, down_taken, up_taken}
+use Rattle.play_model.specs.World.Nodes.{node_of, block_of, member_change}
+use Rattle.play_model.specs.World.Events.{outcome, happens}
+use Rattle.member_events.specs.WorldNets.Changes.{world_taken}
+use Rattle.play_model.proofs.WorldLaws.StampGivens.{put-there}
 use Rattle.member_events.proofs.WorldLaws.{happened}
 use Rattle.play_nodes.proofs.Tables.{put_at_there, none_dialled}
 

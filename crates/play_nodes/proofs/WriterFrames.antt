@@ -6,27 +6,27 @@ use Rattle.hd_base.specs.declared.numbers.BlockId.{BlockId}
 use Rattle.hd_base.specs.declared.numbers.ConnId.{ConnId}
 use Rattle.hd_base.specs.declared.numbers.NodeId.{NodeId}
 use Rattle.op_headers.specs.declared.ops.Op.{Op}
-use Rattle.writer_core.specs.declared.actions.Action.{Action}
-use Rattle.writer_core.specs.declared.actions.Action.TheVariants as action
-use Rattle.writer_core.specs.declared.phases.Phase.{Phase}
-use Rattle.writer_core.specs.declared.phases.Phase.TheVariants as phase
-use Rattle.writer_core.specs.declared.phases.Waiting.{Waiting}
-use Rattle.writer_core.specs.declared.records.WriterRecord.{WriterRecord}
-use Rattle.writer_core.specs.Transitions.{given, own_step, dial_step, open_step, completed_step, granted, dialled}
-use Rattle.writer_core.specs.Transitions as writer
-use Rattle.world.specs.declared.events.Event.{Event}
-use Rattle.world.specs.declared.events.Event.TheVariants as event
-use Rattle.world.specs.declared.events.TakenCommand.{TakenCommand}
-use Rattle.world.specs.Parts.{Upper, by_writer, by_member, Dialled, Told}
-use Rattle.world.specs.Worlds.{World, Dial, Change, put, put_at, apply, dial_at}
-use Rattle.world.specs.Connections.{Next, next_up, up_taken, is_alive, is_conn}
-use Rattle.world.specs.Clients.{writer_change, did, dialled_change, dialling, rest_in, is_empty, is_formed, ruled, command_bytes, takes_step, takes_command, writer_step, own_writer, writer_hears, writer_up}
-use Rattle.world.specs.Primaries.{writer_asks, writer_asks_office}
-use Rattle.world.specs.Events.{changed, outcome, after_event, happens, run, upper_up, up_as}
-use Rattle.world_laws.proofs.FactTables.{if-each, when-each, and-left, and-right}
-use Rattle.world_laws.proofs.GrowthLaws.{apply-grows}
-use Rattle.world_nets.specs.Nets.{is_over}
-use Rattle.world_nets.proofs.StepLemmas.{changed-over, taken-over, next-conn}
+use Rattle.play_model.specs.WriterCore.Action.{Action}
+use Rattle.play_model.specs.WriterCore.Action.TheVariants as action
+use Rattle.play_model.specs.WriterCore.Phase.{Phase}
+use Rattle.play_model.specs.WriterCore.Phase.TheVariants as phase
+use Rattle.play_model.specs.WriterCore.Waiting.{Waiting}
+use Rattle.play_model.specs.WriterCore.WriterRecord.{WriterRecord}
+use Rattle.play_model.specs.WriterCore.Transitions.{given, own_step, dial_step, open_step, completed_step, granted, dialled}
+use Rattle.play_model.specs.WriterCore.Transitions as writer
+use Rattle.play_model.specs.World.Event.{Event}
+use Rattle.play_model.specs.World.Event.TheVariants as event
+use Rattle.play_model.specs.World.TakenCommand.{TakenCommand}
+use Rattle.play_model.specs.World.Parts.{Upper, by_writer, by_member, Dialled, Told}
+use Rattle.play_model.specs.World.Worlds.{World, Dial, Change, put, put_at, apply, dial_at}
+use Rattle.play_model.specs.World.Connections.{Next, next_up, up_taken, is_alive, is_conn}
+use Rattle.play_model.specs.World.Clients.{writer_change, did, dialled_change, dialling, rest_in, is_empty, is_formed, ruled, command_bytes, takes_step, takes_command, writer_step, own_writer, writer_hears, writer_up}
+use Rattle.play_model.specs.World.Primaries.{writer_asks, writer_asks_office}
+use Rattle.play_model.specs.World.Events.{changed, outcome, after_event, happens, run, upper_up, up_as}
+use Rattle.play_model.proofs.WorldLaws.FactTables.{if-each, when-each, and-left, and-right}
+use Rattle.play_model.proofs.WorldLaws.GrowthLaws.{apply-grows}
+use Rattle.member_events.specs.WorldNets.Nets.{is_over}
+use Rattle.member_events.proofs.WorldNets.StepLemmas.{changed-over, taken-over, next-conn}
 use Rattle.world_orders.proofs.Lists.{dial-here}
 use Rattle.play_model.specs.Dues.{Queues, own_events, action_of, acting, asking}
 use Rattle.play_nodes.specs.Frames.{IsFirst, WriterKeeps, HearKeeps}

@@ -9,12 +9,12 @@ use Rattle.hd_base.specs.declared.links.LinkOut as link_out
 use Rattle.hd_base.specs.declared.roads.Roads as roads
 use Rattle.op_headers.specs.Values.{WriteFields}
 use Rattle.road_traffic.specs.Showing.{Net}
-use Rattle.world.specs.declared.events.Event.TheVariants as event
-use Rattle.world.specs.Parts.{idle}
-use Rattle.world.specs.Worlds.{World}
-use Rattle.world.specs.Nodes.{mirror_node}
-use Rattle.world.specs.Events.{happens}
-use Rattle.world_nets.specs.Drawn.{ComesDown}
+use Rattle.play_model.specs.World.Event.TheVariants as event
+use Rattle.play_model.specs.World.Parts.{idle}
+use Rattle.play_model.specs.World.Worlds.{World}
+use Rattle.play_model.specs.World.Nodes.{mirror_node}
+use Rattle.play_model.specs.World.Events.{happens}
+use Rattle.member_events.specs.WorldNets.Drawn.{ComesDown}
 use Rattle.world_requests.specs.Requests.{AllAsked, IsAmong}
 use Rattle.play_model.specs.declared.dues.Due.TheVariants as due
 use Rattle.play_model.specs.Dues.{Queues, is_due}

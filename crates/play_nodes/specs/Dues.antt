@@ -7,9 +7,9 @@ use Rattle.hd_base.specs.declared.links.LinkOut as link_out
 use Rattle.hd_base.specs.declared.numbers.ConnId.{ConnId}
 use Rattle.hd_base.specs.declared.roads.Roads as roads
 use Rattle.road_traffic.specs.Showing.{Net}
-use Rattle.world.specs.Parts.{by_member, idle}
-use Rattle.world.specs.Worlds.{World}
-use Rattle.world_laws.specs.Placing.{Placed}
+use Rattle.play_model.specs.World.Parts.{by_member, idle}
+use Rattle.play_model.specs.World.Worlds.{World}
+use Rattle.play_model.specs.WorldLaws.Placing.{Placed}
 use Rattle.world_orders.specs.Open.{OpenEnds}
 use Rattle.world_orders.specs.Orders.{Ordered}
 use Rattle.play_model.specs.declared.dues.Due.TheVariants as due

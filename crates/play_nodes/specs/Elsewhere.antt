@@ -6,18 +6,18 @@ use Rattle.hd_base.specs.declared.links.LinkOut as link_out
 use Rattle.hd_base.specs.declared.numbers.BlockId.{BlockId}
 use Rattle.hd_base.specs.declared.numbers.ConnId.{ConnId}
 use Rattle.hd_base.specs.declared.numbers.NodeId.{NodeId}
-use Rattle.replica_files.specs.declared.book_state.BookState.{BookState}
-use Rattle.replica_files.specs.Books.{replica_of}
+use Rattle.member_events.specs.ReplicaFiles.BookState.{BookState}
+use Rattle.member_events.specs.ReplicaFiles.Books.{replica_of}
 use Rattle.road_traffic.specs.Showing.{Net}
-use Rattle.world.specs.declared.events.Delivery.TheVariants as delivery
-use Rattle.world.specs.declared.events.Event.{Event}
-use Rattle.world.specs.declared.events.Event.TheVariants as event
-use Rattle.world.specs.Parts.{by_writer, by_member, by_reader, by_primary, idle}
-use Rattle.world.specs.Worlds.{World}
-use Rattle.world.specs.Nodes.{node_of}
-use Rattle.world.specs.Primaries.{numbered}
-use Rattle.world.specs.Events.{happens, run}
-use Rattle.world_nets.specs.Nets.{is_over}
+use Rattle.play_model.specs.World.Delivery.TheVariants as delivery
+use Rattle.play_model.specs.World.Event.{Event}
+use Rattle.play_model.specs.World.Event.TheVariants as event
+use Rattle.play_model.specs.World.Parts.{by_writer, by_member, by_reader, by_primary, idle}
+use Rattle.play_model.specs.World.Worlds.{World}
+use Rattle.play_model.specs.World.Nodes.{node_of}
+use Rattle.play_model.specs.World.Primaries.{numbered}
+use Rattle.play_model.specs.World.Events.{happens, run}
+use Rattle.member_events.specs.WorldNets.Nets.{is_over}
 use Rattle.world_orders.specs.Orders.{Ordered}
 use Rattle.member_events.specs.Showing.{OthersStay}
 use Rattle.play_model.specs.declared.dues.Due.TheVariants as due

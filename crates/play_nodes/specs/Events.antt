@@ -7,17 +7,17 @@ use Rattle.hd_base.specs.declared.files.Files as files
 use Rattle.hd_base.specs.declared.links.LinkIn as link_in
 use Rattle.hd_base.specs.declared.links.LinkOut as link_out
 use Rattle.hd_base.specs.declared.roads.Roads as roads
-use Rattle.replica_files.specs.declared.book_state.BookState.{BookState}
+use Rattle.member_events.specs.ReplicaFiles.BookState.{BookState}
 use Rattle.road_traffic.specs.Showing.{Net}
-use Rattle.world.specs.declared.events.Event.{Event}
-use Rattle.world.specs.declared.events.Event.TheVariants as event
-use Rattle.world.specs.Parts.{by_member, idle}
-use Rattle.world.specs.Worlds.{World}
-use Rattle.world.specs.Events.{happens}
-use Rattle.world_laws.specs.Placing.{Placed}
+use Rattle.play_model.specs.World.Event.{Event}
+use Rattle.play_model.specs.World.Event.TheVariants as event
+use Rattle.play_model.specs.World.Parts.{by_member, idle}
+use Rattle.play_model.specs.World.Worlds.{World}
+use Rattle.play_model.specs.World.Events.{happens}
+use Rattle.play_model.specs.WorldLaws.Placing.{Placed}
 use Rattle.world_orders.specs.Orders.{Ordered}
 use Rattle.world_orders.specs.Takes.{TakesInOrder}
-use Rattle.world_texts.specs.Texts.{Written}
+use Rattle.member_events.specs.WorldTexts.Texts.{Written}
 use Rattle.play_model.specs.declared.dues.Due.TheVariants as due
 use Rattle.play_model.specs.Dues.{Queues, is_due}
 use Rattle.play_nodes.specs.declared.faults.NodesFault.{NodesFault}

@@ -8,13 +8,13 @@ use Rattle.hd_base.specs.declared.numbers.BlockId.{BlockId}
 use Rattle.hd_base.specs.declared.numbers.ConnId.{ConnId}
 use Rattle.hd_base.specs.declared.numbers.NodeId.{NodeId}
 use Rattle.road_traffic.specs.Showing.{Net}
-use Rattle.world.specs.declared.events.Event.TheVariants as event
-use Rattle.world.specs.Parts.{by_writer, by_member, idle}
-use Rattle.world.specs.Worlds.{World}
-use Rattle.world.specs.Connections.{is_served}
-use Rattle.world.specs.Events.{happens, run}
-use Rattle.world_nets.specs.Nets.{IsEndOf, is_over}
-use Rattle.world_nets.specs.Ends.{IsElsewhere}
+use Rattle.play_model.specs.World.Event.TheVariants as event
+use Rattle.play_model.specs.World.Parts.{by_writer, by_member, idle}
+use Rattle.play_model.specs.World.Worlds.{World}
+use Rattle.play_model.specs.World.Connections.{is_served}
+use Rattle.play_model.specs.World.Events.{happens, run}
+use Rattle.member_events.specs.WorldNets.Nets.{IsEndOf, is_over}
+use Rattle.member_events.specs.WorldNets.Ends.{IsElsewhere}
 use Rattle.world_orders.specs.Orders.{Ordered}
 use Rattle.play_model.specs.declared.dues.Due.TheVariants as due
 use Rattle.play_model.specs.Dues.{Queues, due_events}

@@ -7,3 +7,14 @@ pub mod Beginning
 pub mod Dues
 pub mod Frames
 pub mod Elsewhere
+pub mod MemberEvents
+pub mod PipeMember
+pub mod PlayModel
+pub mod ReplicaFiles
+pub mod ReplicaModel
+pub mod World
+pub mod WorldLaws
+pub mod WorldNets
+pub mod WorldOrders
+pub mod WorldRequests
+pub mod WorldTexts

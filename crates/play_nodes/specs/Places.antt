@@ -17,8 +17,8 @@ use Rattle.member_events.specs.declared.joining.Joined.{Joined}
 use Rattle.member_events.specs.declared.joining.MirrorDial.{MirrorDial}
 use Rattle.member_events.specs.declared.joining.MirrorDial.TheVariants as dial
 use Rattle.member_events.specs.Joining.{JoinShows}
-use Rattle.pipe_member.specs.declared.member.Member.{Member}
-use Rattle.replica_files.specs.declared.book_state.BookState.{BookState}
+use Rattle.member_events.specs.PipeMember.Member.{Member}
+use Rattle.member_events.specs.ReplicaFiles.BookState.{BookState}
 use Rattle.play_nodes.specs.declared.connections.Connection.{Connection}
 use Rattle.play_nodes.specs.declared.connections.Lower.{Lower}
 use Rattle.play_nodes.specs.declared.connections.Lower.TheVariants as lower

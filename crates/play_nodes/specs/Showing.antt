@@ -6,16 +6,16 @@ use Rattle.hd_base.specs.declared.numbers.ConnId.{ConnId}
 use Rattle.hd_base.specs.declared.links.LinkIn as link_in
 use Rattle.hd_base.specs.declared.links.LinkOut as link_out
 use Rattle.hd_base.specs.declared.roads.Roads as roads
-use Rattle.replica_files.specs.declared.book_state.BookState.{BookState}
-use Rattle.replica_files.specs.Books.{replica_of}
-use Rattle.pipe_member.specs.declared.member.Member.{Member}
+use Rattle.member_events.specs.ReplicaFiles.BookState.{BookState}
+use Rattle.member_events.specs.ReplicaFiles.Books.{replica_of}
+use Rattle.member_events.specs.PipeMember.Member.{Member}
 use Rattle.road_traffic.specs.Showing.{Net}
-use Rattle.world.specs.Parts as parts
-use Rattle.world.specs.Parts.{by_writer, by_member, by_reader, by_primary, FullMember, idle, writes}
-use Rattle.world.specs.Worlds.{World}
-use Rattle.world.specs.Connections.{is_served}
-use Rattle.world.specs.Nodes.{node_of, block_of}
-use Rattle.world_nets.specs.Nets.{IsEndOf}
+use Rattle.play_model.specs.World.Parts as parts
+use Rattle.play_model.specs.World.Parts.{by_writer, by_member, by_reader, by_primary, FullMember, idle, writes}
+use Rattle.play_model.specs.World.Worlds.{World}
+use Rattle.play_model.specs.World.Connections.{is_served}
+use Rattle.play_model.specs.World.Nodes.{node_of, block_of}
+use Rattle.member_events.specs.WorldNets.Nets.{IsEndOf}
 use Rattle.play_model.specs.Dues.{is_open}
 use Rattle.play_model.specs.Lines.{mirror_of}
 use Rattle.member_events.specs.Showing.{ShowsWorld, MemberShows}

@@ -4,7 +4,7 @@ ghost use Rattle.std.specs.Prelude.{◌≡◌};
 ghost use Rattle.play_nodes.specs.Showing.{stands_here};
 
 use hd_base::{BlockId, Conn, ConnId, NodeId};
-use pipe_member::Member;
+use member_events::Member;
 
 /// Who dialled a connection.
 #[derive(Clone, Copy, Debug, PartialEq, Eq)]

@@ -18,4 +18,7 @@ pub use frames::{
     nodes_ends_stay, nodes_follow, nodes_keep_elsewhere, nodes_keep_writers, nodes_stay,
     upper_ends_stay, writers_keep_elsewhere, writers_keep_nodes,
 };
+pub use member_events::{ReplicaBook, starts_are_nets};
 pub use nodes::{NodeBooks, Nodes};
+pub use play_model::ReadAsk;
+pub use world_requests::requests_are_among;

@@ -6,9 +6,7 @@ ghost use Rattle.play_nodes.specs.Places.{book_at, IsSeat, Takes, PutBack, Follo
 use crate::connections::{Connection, Lower, Upper};
 use crate::faults::{NodesFault, fault_at};
 use hd_base::{BlockId, ConnId, Files, LinkIn, LinkOut, NodeId};
-use member_events::MemberFault;
-use pipe_member::Member;
-use replica_files::ReplicaBook;
+use member_events::{Member, MemberFault, ReplicaBook};
 use std::mem;
 
 /// The books of a node, in the order of the blocks of the play.

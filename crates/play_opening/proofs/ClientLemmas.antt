@@ -2,9 +2,9 @@
 use Rattle.std.proofs.Common.{◌≡◌, ◌≤◌, ◌+◌, ℕ, zero, suc, List, [], ◌∷◌, ◌++◌, length, take, slice_get, Some, refl, sym, ap, subst, ◌∙◌, add-one}
 use Rattle.std.proofs.lemmas.List.{take_all, map-append}
 use Rattle.hd_base.specs.declared.numbers.BlockId.{BlockId}
-use Rattle.play_nodes.proofs.PlaceLaws.{same_some}
-use Rattle.node_opening.proofs.ListLemmas.{take_next}
-use Rattle.play_clients.specs.declared.clients.Client.{Client}
+use Rattle.play.proofs.PlayNodes.PlaceLaws.{same_some}
+use Rattle.play.proofs.NodeOpening.ListLemmas.{take_next}
+use Rattle.play.specs.PlayClients.Client.{Client}
 use Rattle.play.specs.Events.{blocks_of}
 use Rattle.play_opening.specs.Opening.{IsNewClient, AreNewClients}
 

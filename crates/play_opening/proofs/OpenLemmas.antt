@@ -14,28 +14,28 @@ use Rattle.road_traffic.specs.Showing.{Net}
 use Rattle.writer_core.specs.declared.records.WriterRecord.{WriterRecord}
 use Rattle.writer_core.specs.Commands.{is_unmade}
 use Rattle.writer_core.specs.Transitions.{fresh}
-use Rattle.world.specs.declared.events.Event.{Event}
-use Rattle.world.specs.declared.events.TakenCommand.{TakenCommand}
-use Rattle.world.specs.Worlds.{World, start}
-use Rattle.world.specs.Events.{run}
-use Rattle.play_laws.specs.Intakes.{intake_of}
-use Rattle.client_events.specs.declared.acting.Said.{Said}
-use Rattle.client_events.specs.declared.pipes.Pipe.{Pipe}
-use Rattle.client_events.specs.Showing.{PipeShows, PipeFits}
-use Rattle.play_clients.specs.declared.clients.Client.{Client}
-use Rattle.play_clients.specs.Clients.{IsNew, ClientShows, known_of, said_as}
-use Rattle.play_nodes.specs.Showing.{NodesStand}
-use Rattle.node_opening.specs.Shelves.{AreDistinct}
-use Rattle.node_opening.specs.Listening.{opened_net}
+use Rattle.play.specs.World.Event.{Event}
+use Rattle.play.specs.World.TakenCommand.{TakenCommand}
+use Rattle.play.specs.World.Worlds.{World, start}
+use Rattle.play.specs.World.Events.{run}
+use Rattle.play.specs.PlayLaws.Intakes.{intake_of}
+use Rattle.play.specs.ClientEvents.Said.{Said}
+use Rattle.play.specs.ClientEvents.Pipe.{Pipe}
+use Rattle.play.specs.ClientEvents.Showing.{PipeShows, PipeFits}
+use Rattle.play.specs.PlayClients.Client.{Client}
+use Rattle.play.specs.PlayClients.Clients.{IsNew, ClientShows, known_of, said_as}
+use Rattle.play.specs.PlayNodes.Showing.{NodesStand}
+use Rattle.play.specs.NodeOpening.Shelves.{AreDistinct}
+use Rattle.play.specs.NodeOpening.Listening.{opened_net}
 use Rattle.play.specs.declared.player.Player.{Player}
-use Rattle.play_readers.specs.declared.clients.ReadClient.{ReadClient}
-use Rattle.play_primaries.specs.declared.clients.PrimaryClient.{PrimaryClient}
-use Rattle.play_readers.specs.Asks.{asks_of}
-use Rattle.play_reads.specs.Joining as no_reads
-use Rattle.play_recoveries.specs.Joining as no_recoveries
-use Rattle.play_recoveries.specs.Places.{recoveries_of}
+use Rattle.play.specs.PlayReaders.ReadClient.{ReadClient}
+use Rattle.play.specs.PlayPrimaries.PrimaryClient.{PrimaryClient}
+use Rattle.play.specs.PlayReaders.Asks.{asks_of}
+use Rattle.play.specs.PlayReads.Joining as no_reads
+use Rattle.play.specs.PlayRecoveries.Joining as no_recoveries
+use Rattle.play.specs.PlayRecoveries.Places.{recoveries_of}
 use Rattle.play.specs.Showing.{AreApart, PlayerShows}
-use Rattle.play_laws.specs.Commands.{CommandsFit}
+use Rattle.play.specs.PlayLaws.Commands.{CommandsFit}
 use Rattle.play.specs.Standing.{ClientFits, EventsFit, world_of, PlayStands}
 use Rattle.play_opening.specs.Opening.{IsNewClient, AreNewClients, IsOpenedPlay, no_commands}
 use Rattle.play_opening.proofs.ClientLemmas.{block_here}

@@ -1,1 +1,12 @@
 pub mod Opening
+pub mod NodeStarts
+pub mod Play
+pub mod PlayClients
+pub mod PlayDues
+pub mod PlayPrimaries
+pub mod PlayReaders
+pub mod PlayReads
+pub mod PlayRecoveries
+pub mod PlaySettling
+pub mod ReplicaFiles
+pub mod WorldCuts

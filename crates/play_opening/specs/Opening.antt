@@ -7,15 +7,15 @@ use Rattle.hd_base.specs.declared.links.LinkOut as link_out
 use Rattle.hd_base.specs.declared.roads.Roads as roads
 use Rattle.hd_base.specs.declared.shelves.Shelf as shelves
 use Rattle.name_core.specs.Books.{new_book}
-use Rattle.node_opening.specs.declared.faults.OpenFault.{OpenFault}
-use Rattle.node_opening.specs.Listening.{AreUnused}
-use Rattle.node_opening.specs.Opening.{IsOpened}
-use Rattle.play_model.specs.Dues.{Queues}
-use Rattle.play_clients.specs.declared.clients.Client.{Client}
-use Rattle.play_clients.specs.Clients.{IsNew}
-use Rattle.play_nodes.specs.Showing.{runs_in}
-use Rattle.play_reads.specs.Joining.{AreNone}
-use Rattle.play_recoveries.specs.Joining as primaries
+use Rattle.play.specs.NodeOpening.OpenFault.{OpenFault}
+use Rattle.play.specs.NodeOpening.Listening.{AreUnused}
+use Rattle.play.specs.NodeOpening.Opening.{IsOpened}
+use Rattle.play.specs.PlayModel.Dues.{Queues}
+use Rattle.play.specs.PlayClients.Client.{Client}
+use Rattle.play.specs.PlayClients.Clients.{IsNew}
+use Rattle.play.specs.PlayNodes.Showing.{runs_in}
+use Rattle.play.specs.PlayReads.Joining.{AreNone}
+use Rattle.play.specs.PlayRecoveries.Joining as primaries
 use Rattle.play.specs.declared.player.Player.{Player}
 use Rattle.play.specs.Events.{blocks_of}
 use Rattle.play.specs.Standing.{PlayStands}

@@ -4,7 +4,7 @@ ghost use Rattle.std.specs.Prelude.{IfOk};
 ghost use Rattle.play_opening.specs.Opening.{AreNewClients, IsNewClient};
 
 use hd_base::{BlockId, LinkIn, LinkOut};
-use play_clients::Client;
+use play::Client;
 use std::alloc::{AllocError, Global};
 
 /// A new client.

@@ -2,17 +2,14 @@
 
 ghost use Rattle.std.specs.Prelude.{◌≡◌, ◌≤◌, length, IfOk, IfErr, OnErr};
 ghost use Rattle.hd_base.specs.declared.roads.TheConstants.{MAX_NODES};
-ghost use Rattle.node_opening.specs.Shelves.{AreDistinct, EachShelf, IsGivenBack};
-ghost use Rattle.node_opening.specs.Opening.{HasOpenCause};
+ghost use Rattle.play.specs.NodeOpening.Shelves.{AreDistinct, EachShelf, IsGivenBack};
+ghost use Rattle.play.specs.NodeOpening.Opening.{HasOpenCause};
 ghost use Rattle.play_opening.specs.Opening.{AllRun, IsOpenedPlay, OpensPlay};
 
 use crate::clients::new_clients;
 use hd_base::{BlockId, Roads, Shelf};
 use name_core::OfficeBook;
-use node_opening::{OpenFault, open_nodes};
-use play::Player;
-use play_reads::Reads;
-use play_recoveries::Recoveries;
+use play::{OpenFault, Player, Reads, Recoveries, open_nodes};
 use std::alloc::{AllocError, Global};
 
 /// That so many nodes run, which are the first ones.

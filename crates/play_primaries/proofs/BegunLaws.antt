@@ -14,24 +14,24 @@ use Rattle.hd_base.specs.declared.roads.Roads as roads
 use Rattle.name_core.specs.declared.desks.Desk as desks
 use Rattle.recovery_core.specs.declared.primary.Phase.{Phase}
 use Rattle.recovery_core.specs.declared.primary.Recovered.{Recovered}
-use Rattle.block_recovery.specs.declared.primary.Primary as running
-use Rattle.block_recovery.specs.Steps as steps
+use Rattle.primary_events.specs.BlockRecovery.Primary as running
+use Rattle.primary_events.specs.BlockRecovery.Steps as steps
 use Rattle.road_traffic.specs.Showing.{Net}
-use Rattle.world.specs.Clients.{are_distinct, are_members}
-use Rattle.world.specs.Events.{run}
-use Rattle.world.specs.Parts.{Leading, Primary, no_primary, leads}
-use Rattle.world.specs.Primaries.{dials_answered, numbered}
-use Rattle.world.specs.Worlds.{World}
-use Rattle.world_laws.proofs.FactTables.{and-right}
-use Rattle.world_texts.specs.Texts.{Written}
+use Rattle.primary_events.specs.World.Clients.{are_distinct, are_members}
+use Rattle.primary_events.specs.World.Events.{run}
+use Rattle.primary_events.specs.World.Parts.{Leading, Primary, no_primary, leads}
+use Rattle.primary_events.specs.World.Primaries.{dials_answered, numbered}
+use Rattle.primary_events.specs.World.Worlds.{World}
+use Rattle.world_recoveries.proofs.WorldLaws.FactTables.{and-right}
+use Rattle.play_readers.specs.WorldTexts.Texts.{Written}
 use Rattle.primary_events.specs.declared.beginning.PrimaryBegun.{PrimaryBegun}
 use Rattle.primary_events.specs.declared.beginning.PrimaryBegun.TheVariants as beginning
 use Rattle.primary_events.specs.declared.faults.PrimaryFault.{PrimaryFault}
 use Rattle.primary_events.specs.declared.faults.PrimaryFault.TheVariants as fault
 use Rattle.primary_events.specs.Beginning.{begun_world, SpellsBegun, LowerShows, LeadsBegun, HasBegun, EndsBegun, BeginEnds, BeginShows}
 use Rattle.primary_events.specs.Leading.{AllOthersStay}
-use Rattle.play_model.specs.declared.recoveries.Recovery.{Recovery}
-use Rattle.play_model.specs.Recoveries.{all_answered, primary_due, primary_events}
+use Rattle.play_readers.specs.PlayModel.Recovery.{Recovery}
+use Rattle.play_readers.specs.PlayModel.Recoveries.{all_answered, primary_due, primary_events}
 use Rattle.play_primaries.specs.declared.clients.PrimaryClient.{PrimaryClient}
 use Rattle.play_primaries.specs.declared.clients.PrimaryState.{PrimaryState}
 use Rattle.play_primaries.specs.declared.clients.PrimaryState.TheVariants as state

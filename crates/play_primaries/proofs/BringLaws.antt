@@ -7,21 +7,21 @@ use Rattle.hd_base.specs.declared.links.LinkIn as link_in
 use Rattle.hd_base.specs.declared.links.LinkOut as link_out
 use Rattle.hd_base.specs.declared.roads.Roads as roads
 use Rattle.link_pieces.specs.Roads.{BringsEnd}
-use Rattle.block_recovery.specs.declared.links.Link.{Link}
-use Rattle.block_recovery.specs.declared.links.Seat.{Seat}
-use Rattle.block_recovery.specs.declared.links.Seat.TheVariants as seat
-use Rattle.block_recovery.specs.Actions.{Held, Passes, place_after}
-use Rattle.block_recovery.specs.Dialling.{is_lost}
-use Rattle.block_recovery.specs.Exchanging.{BringsLink, BringsAt, BringsAll}
+use Rattle.primary_events.specs.BlockRecovery.Link.{Link}
+use Rattle.primary_events.specs.BlockRecovery.Seat.{Seat}
+use Rattle.primary_events.specs.BlockRecovery.Seat.TheVariants as seat
+use Rattle.primary_events.specs.BlockRecovery.Actions.{Held, Passes, place_after}
+use Rattle.primary_events.specs.BlockRecovery.Dialling.{is_lost}
+use Rattle.primary_events.specs.BlockRecovery.Exchanging.{BringsLink, BringsAt, BringsAll}
 use Rattle.road_traffic.specs.Laws.{BringsShow}
 use Rattle.road_traffic.specs.Showing.{Net, RoadsShow, flushed_net}
-use Rattle.world.specs.Worlds.{World}
-use Rattle.world_nets.specs.Dials.{NetsStaySane}
-use Rattle.world_nets.specs.Ends.{IsElsewhere, EndsElsewhereStay}
-use Rattle.world_nets.specs.Nets.{IsEndOf, held_by, is_over}
-use Rattle.world_nets.specs.Steps.{IdleFlushesAreNets}
-use Rattle.world_primaries.specs.Links.{AreDistinct}
-use Rattle.member_events.specs.Showing.{ShowsWorld}
+use Rattle.primary_events.specs.World.Worlds.{World}
+use Rattle.play_readers.specs.WorldNets.Dials.{NetsStaySane}
+use Rattle.play_readers.specs.WorldNets.Ends.{IsElsewhere, EndsElsewhereStay}
+use Rattle.play_readers.specs.WorldNets.Nets.{IsEndOf, held_by, is_over}
+use Rattle.play_readers.specs.WorldNets.Steps.{IdleFlushesAreNets}
+use Rattle.primary_events.specs.WorldPrimaries.Links.{AreDistinct}
+use Rattle.primary_events.specs.MemberEvents.Showing.{ShowsWorld}
 use Rattle.primary_events.specs.Leading.{AllOthersStay}
 use Rattle.primary_events.proofs.GivingUpLaws.{any_lost}
 use Rattle.primary_events.proofs.PlaceLemmas.{set_here, set_there, within}

@@ -7,13 +7,13 @@ use Rattle.recovery_core.specs.declared.primary.OwnStep.{OwnStep}
 use Rattle.recovery_core.specs.declared.primary.OwnStep.TheVariants as own
 use Rattle.recovery_core.specs.declared.primary.Recovered.{Recovered}
 use Rattle.recovery_core.specs.Primaries.{is_commit, own_step}
-use Rattle.block_recovery.specs.declared.primary.Primary as running
-use Rattle.block_recovery.specs.Awaiting.{commits_next}
+use Rattle.primary_events.specs.BlockRecovery.Primary as running
+use Rattle.primary_events.specs.BlockRecovery.Awaiting.{commits_next}
 use Rattle.road_traffic.specs.Showing.{Net}
-use Rattle.world.specs.Parts.{Leading, Primary}
-use Rattle.world.specs.Worlds.{World}
-use Rattle.play_model.specs.declared.recoveries.Recovery.{Recovery}
-use Rattle.play_model.specs.Recoveries.{acts, leads_events, primary_due, primary_events}
+use Rattle.primary_events.specs.World.Parts.{Leading, Primary}
+use Rattle.primary_events.specs.World.Worlds.{World}
+use Rattle.play_readers.specs.PlayModel.Recovery.{Recovery}
+use Rattle.play_readers.specs.PlayModel.Recoveries.{acts, leads_events, primary_due, primary_events}
 use Rattle.play_primaries.specs.declared.clients.PrimaryClient.{PrimaryClient}
 use Rattle.play_primaries.specs.declared.clients.PrimaryState.{PrimaryState}
 use Rattle.play_primaries.specs.declared.clients.PrimaryState.TheVariants as state

@@ -10,23 +10,23 @@ use Rattle.recovery_core.specs.declared.primary.OwnStep.{OwnStep}
 use Rattle.recovery_core.specs.declared.primary.OwnStep.TheVariants as step
 use Rattle.recovery_core.specs.declared.primary.Recovered.{Recovered}
 use Rattle.recovery_core.specs.Primaries.{PrimaryState, begun_with, own_step}
-use Rattle.world.specs.declared.events.Caller.TheVariants as caller
-use Rattle.world.specs.declared.events.Event.{Event}
-use Rattle.world.specs.declared.events.Event.TheVariants as event
-use Rattle.world.specs.declared.events.OwnStep.TheVariants as own
-use Rattle.world.specs.Clients.{are_members}
-use Rattle.world.specs.Connections.{is_alive, place_of}
-use Rattle.world.specs.Events.{changed, outcome, after_event, happens, run}
-use Rattle.world.specs.Parts.{Message, by_primary, Dialled, Place, Told, Leading, Primary, no_primary, was_told, leads, has_led}
-use Rattle.world.specs.Primaries.{begins_as, begins_at, commits_step, dials_answered, leads_step, leads_told, numbered, office_event, own_primary, own_primary_as, own_recover, primary_asks, primary_commits, primary_dials, recovery_message}
-use Rattle.world.specs.Worlds.{World, Change, Dial, apply, dial_at, put}
-use Rattle.world_laws.proofs.FactTables.{when-each}
-use Rattle.world_laws.proofs.StampGivens.{put-here}
-use Rattle.world_orders.proofs.Lists.{dial-here}
+use Rattle.primary_events.specs.World.Caller.TheVariants as caller
+use Rattle.primary_events.specs.World.Event.{Event}
+use Rattle.primary_events.specs.World.Event.TheVariants as event
+use Rattle.primary_events.specs.World.OwnStep.TheVariants as own
+use Rattle.primary_events.specs.World.Clients.{are_members}
+use Rattle.primary_events.specs.World.Connections.{is_alive, place_of}
+use Rattle.primary_events.specs.World.Events.{changed, outcome, after_event, happens, run}
+use Rattle.primary_events.specs.World.Parts.{Message, by_primary, Dialled, Place, Told, Leading, Primary, no_primary, was_told, leads, has_led}
+use Rattle.primary_events.specs.World.Primaries.{begins_as, begins_at, commits_step, dials_answered, leads_step, leads_told, numbered, office_event, own_primary, own_primary_as, own_recover, primary_asks, primary_commits, primary_dials, recovery_message}
+use Rattle.primary_events.specs.World.Worlds.{World, Change, Dial, apply, dial_at, put}
+use Rattle.world_recoveries.proofs.WorldLaws.FactTables.{when-each}
+use Rattle.world_recoveries.proofs.WorldLaws.StampGivens.{put-here}
+use Rattle.play_readers.proofs.WorldOrders.Lists.{dial-here}
 use Rattle.primary_events.specs.Beginning.{begun_world}
 use Rattle.primary_events.proofs.NumberLemmas.{answered_alike}
-use Rattle.play_model.specs.declared.recoveries.Recovery.{Recovery}
-use Rattle.play_model.specs.Recoveries.{leads_events}
+use Rattle.play_readers.specs.PlayModel.Recovery.{Recovery}
+use Rattle.play_readers.specs.PlayModel.Recoveries.{leads_events}
 use Rattle.play_primaries.specs.Owning.{AreDialled, IsDialledAt, dials_in}
 
 -- STEPS THAT DIAL NOTHING
@@ -315,7 +315,7 @@ module _ (w : World) (t : Recovery) (new : w.primaries t.primary ≡ no_primary)
         let x = dial_to u t.primary (place_of u t.node.0) m 0 u.next_conn t.members said place c member is (subst (λ (n : ℕ). slice_get (numbered n said) place ≡ Some (Some c)) (sym told.next) at) in
         let there : slice_get (dials_to u t.primary t.node.0 t.members answers m) x.at ≡ Some x.dial = ap (λ (ds : List Dial). slice_get ds x.at) (dials_are m) ∙ x.there in
         let here : v.dialled c ≡ x.dial.dialled = h.dialled c
-            ∙ ap (λ (o : Option Dial). unwrap_or (option_map (λ (d : Dial). d.dialled) o) (u.dialled c)) (dial-here u.next_conn c x.at (dials_to u t.primary t.node.0 t.members answers m) x.dial x.is there) in
+        ∙ ap (λ (o : Option Dial). unwrap_or (option_map (λ (d : Dial). d.dialled) o) (u.dialled c)) (dial-here u.next_conn c x.at (dials_to u t.primary t.node.0 t.members answers m) x.dial x.is there) in
         record {
           upper = ap (λ (d : Dialled). d.upper) here ∙ (x.upper ∙ ap (λ (k : ℕ). by_primary t.primary k) (omega arith));
           from = ap (λ (d : Dialled). option_map (λ (p : Place). p.node) d.from) here ∙ ap (option_map (λ (p : Place). p.node)) x.from_is;
@@ -329,8 +329,8 @@ module _ (w : World) (t : Recovery) (new : w.primaries t.primary ≡ no_primary)
         record {
           count = few;
           next = z.1.next
-          ∙ (ap (λ (n : ℕ). n + length (dials_to u t.primary t.node.0 t.members answers z.0)) told.next
-          ∙ ap (λ (k : ℕ). w.next_conn + k) (ap (λ (ds : List Dial). length ds) (dials_are z.0) ∙ dials_count u t.primary (place_of u t.node.0) z.0 0 t.members said few));
+              ∙ (ap (λ (n : ℕ). n + length (dials_to u t.primary t.node.0 t.members answers z.0)) told.next
+              ∙ ap (λ (k : ℕ). w.next_conn + k) (ap (λ (ds : List Dial). length ds) (dials_are z.0) ∙ dials_count u t.primary (place_of u t.node.0) z.0 0 t.members said few));
           each = dialled_at z.0 z.1;
         }
 

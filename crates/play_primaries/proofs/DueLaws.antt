@@ -18,26 +18,26 @@ use Rattle.recovery_core.specs.declared.primary.Phase.TheVariants as phase
 use Rattle.recovery_core.specs.declared.standings.Standing as member
 use Rattle.recovery_core.specs.Primaries as core
 use Rattle.recovery_core.specs.Primaries.{choosing, committing, infos, own_at, own_step, taken, updated_members, waits}
-use Rattle.block_recovery.specs.declared.links.Link.{Link}
-use Rattle.block_recovery.specs.declared.links.Seat.{Seat}
-use Rattle.block_recovery.specs.declared.links.Seat.TheVariants as seat
-use Rattle.block_recovery.specs.declared.primary.Primary as running
-use Rattle.block_recovery.specs.Awaiting.{waits_for, hearing_conn}
+use Rattle.primary_events.specs.BlockRecovery.Link.{Link}
+use Rattle.primary_events.specs.BlockRecovery.Seat.{Seat}
+use Rattle.primary_events.specs.BlockRecovery.Seat.TheVariants as seat
+use Rattle.primary_events.specs.BlockRecovery.Primary as running
+use Rattle.primary_events.specs.BlockRecovery.Awaiting.{waits_for, hearing_conn}
 use Rattle.road_traffic.specs.Showing.{Net, RoadsShow, ShowsStanding}
-use Rattle.world.specs.Connections.{message, the_end, ends_at, next_up}
-use Rattle.world.specs.Enabled.{leads_from, listens_at, takes_above}
-use Rattle.world.specs.Parts.{Upper, by_primary, Leading, Primary, leads, has_led}
-use Rattle.world.specs.Primaries.{listens}
-use Rattle.world.specs.Worlds.{World}
-use Rattle.world_nets.specs.Rows.{rows_of}
-use Rattle.world_nets.specs.Nets.{is_over}
+use Rattle.primary_events.specs.World.Connections.{message, the_end, ends_at, next_up}
+use Rattle.primary_events.specs.World.Enabled.{leads_from, listens_at, takes_above}
+use Rattle.primary_events.specs.World.Parts.{Upper, by_primary, Leading, Primary, leads, has_led}
+use Rattle.primary_events.specs.World.Primaries.{listens}
+use Rattle.primary_events.specs.World.Worlds.{World}
+use Rattle.play_readers.specs.WorldNets.Rows.{rows_of}
+use Rattle.play_readers.specs.WorldNets.Nets.{is_over}
 use Rattle.world_recoveries.specs.Recovering.{IsPlacedIn}
-use Rattle.world_standings.specs.Standings.{stands}
-use Rattle.world_standings.proofs.StandingLaws.{row_stands}
-use Rattle.member_events.specs.Showing.{ShowsWorld}
+use Rattle.play_readers.specs.WorldStandings.Standings.{stands}
+use Rattle.play_readers.proofs.WorldStandings.StandingLaws.{row_stands}
+use Rattle.primary_events.specs.MemberEvents.Showing.{ShowsWorld}
 use Rattle.primary_events.specs.Showing.{LinkShows, SeatShows, PlaceShows}
-use Rattle.play_model.specs.declared.recoveries.Recovery.{Recovery}
-use Rattle.play_model.specs.Recoveries.{acts, leads_due, primary_due}
+use Rattle.play_readers.specs.PlayModel.Recovery.{Recovery}
+use Rattle.play_readers.specs.PlayModel.Recoveries.{acts, leads_due, primary_due}
 use Rattle.play_primaries.specs.declared.clients.PrimaryClient.{PrimaryClient}
 use Rattle.play_primaries.specs.declared.clients.PrimaryState.{PrimaryState}
 use Rattle.play_primaries.specs.declared.clients.PrimaryState.TheVariants as state
@@ -187,7 +187,7 @@ module _ {R I O : Type 0} (r : roads.Ghosts R I O) (i : link_in.Ghosts I) (o : l
     none_from p is none = none_due before ∙ ap (λ (b : Bool). before && b) (sym (ap (λ (q : Primary). leads_from q w place) is ∙ none))
 
     pub primary_due_on : (t : Recovery) (st : PrimaryState I O) → t.primary ≡ number → StateShows i o w net t st → (hears_on st c place && stands s) ≡ (before && leads_from (w.primaries number) w place)
-    primary_due_on t state.New line h = none_from Rattle.world.specs.Parts.no_primary (ap w.primaries (sym line) ∙ h.is) refl
+    primary_due_on t state.New line h = none_from Rattle.primary_events.specs.World.Parts.no_primary (ap w.primaries (sym line) ∙ h.is) refl
     primary_due_on t (state.Leads p) line h = led_due_on t p line h
     primary_due_on t (state.HasLed led) line h = none_from (has_led led) (ap w.primaries (sym line) ∙ h) refl
     primary_due_on t state.Stopped line h =

@@ -11,22 +11,22 @@ use Rattle.recovery_core.specs.declared.standings.Heard.{Heard}
 use Rattle.recovery_core.specs.declared.standings.Standing.{Standing}
 use Rattle.recovery_core.specs.Primaries as core
 use Rattle.recovery_core.specs.Primaries.{heard_as}
-use Rattle.block_recovery.specs.declared.primary.Primary as running
+use Rattle.primary_events.specs.BlockRecovery.Primary as running
 use Rattle.road_traffic.specs.Showing.{Net}
-use Rattle.world.specs.declared.events.Event.TheVariants as event
-use Rattle.world.specs.Connections.{Next, next_up, is_alive}
-use Rattle.world.specs.Events.{happens}
-use Rattle.world.specs.Enabled.{can_up, leads_from, listens_at, takes_above}
-use Rattle.world.specs.Parts.{Upper, by_primary, Leading, Primary, leads}
-use Rattle.world.specs.Primaries.{heard_of, listens}
-use Rattle.world.specs.Worlds.{World}
-use Rattle.world_laws.proofs.FactTables.{and-left, and-right}
-use Rattle.world_nets.specs.Drawn.{ComesUp}
+use Rattle.primary_events.specs.World.Event.TheVariants as event
+use Rattle.primary_events.specs.World.Connections.{Next, next_up, is_alive}
+use Rattle.primary_events.specs.World.Events.{happens}
+use Rattle.primary_events.specs.World.Enabled.{can_up, leads_from, listens_at, takes_above}
+use Rattle.primary_events.specs.World.Parts.{Upper, by_primary, Leading, Primary, leads}
+use Rattle.primary_events.specs.World.Primaries.{heard_of, listens}
+use Rattle.primary_events.specs.World.Worlds.{World}
+use Rattle.world_recoveries.proofs.WorldLaws.FactTables.{and-left, and-right}
+use Rattle.play_readers.specs.WorldNets.Drawn.{ComesUp}
 use Rattle.world_recoveries.specs.Recovering.{IsPlacedIn}
 use Rattle.primary_events.specs.declared.faults.PrimaryFault.{PrimaryFault}
 use Rattle.primary_events.specs.Hearing as hearing
 use Rattle.primary_events.specs.Hearing.{PrimariesCanHear}
-use Rattle.play_model.specs.declared.recoveries.Recovery.{Recovery}
+use Rattle.play_readers.specs.PlayModel.Recovery.{Recovery}
 use Rattle.play_primaries.specs.declared.clients.PrimaryClient.{PrimaryClient}
 use Rattle.play_primaries.specs.declared.clients.PrimaryState.{PrimaryState}
 use Rattle.play_primaries.specs.declared.clients.PrimaryState.TheVariants as state

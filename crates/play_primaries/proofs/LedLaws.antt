@@ -18,20 +18,20 @@ use Rattle.recovery_core.specs.declared.primary.Phase.TheVariants as phase
 use Rattle.recovery_core.specs.declared.primary.Recovered.{Recovered}
 use Rattle.recovery_core.specs.Primaries as core
 use Rattle.recovery_core.specs.Primaries.{choosing, committing, infos, own_at, own_step, taken, updated_members, waits}
-use Rattle.block_recovery.specs.declared.primary.Primary as running
-use Rattle.block_recovery.specs.declared.primary.PrimaryStep.{PrimaryStep}
-use Rattle.block_recovery.specs.declared.primary.PrimaryStep.TheVariants as step
+use Rattle.primary_events.specs.BlockRecovery.Primary as running
+use Rattle.primary_events.specs.BlockRecovery.PrimaryStep.{PrimaryStep}
+use Rattle.primary_events.specs.BlockRecovery.PrimaryStep.TheVariants as step
 use Rattle.road_traffic.specs.Showing.{Net}
-use Rattle.world.specs.Events.{run}
-use Rattle.world.specs.Parts.{Leading, Primary, leads}
-use Rattle.world.specs.Primaries.{numbered}
-use Rattle.world.specs.Worlds.{World}
-use Rattle.world_texts.specs.Texts.{Written}
+use Rattle.primary_events.specs.World.Events.{run}
+use Rattle.primary_events.specs.World.Parts.{Leading, Primary, leads}
+use Rattle.primary_events.specs.World.Primaries.{numbered}
+use Rattle.primary_events.specs.World.Worlds.{World}
+use Rattle.play_readers.specs.WorldTexts.Texts.{Written}
 use Rattle.primary_events.specs.declared.faults.PrimaryFault.{PrimaryFault}
 use Rattle.primary_events.specs.Beginning.{LowerShows}
 use Rattle.primary_events.specs.Leading.{AllOthersStay, CanLead, PrimariesCanLead, RecoveryEnded, IsUpdateCause, UpdateSent, LeadEnds, LeadUpdates, LeadsTo, LeadShows, stepped, committed}
-use Rattle.play_model.specs.declared.recoveries.Recovery.{Recovery}
-use Rattle.play_model.specs.Recoveries.{acts, leads_events, primary_due, primary_events}
+use Rattle.play_readers.specs.PlayModel.Recovery.{Recovery}
+use Rattle.play_readers.specs.PlayModel.Recoveries.{acts, leads_events, primary_due, primary_events}
 use Rattle.play_primaries.specs.declared.clients.PrimaryClient.{PrimaryClient}
 use Rattle.play_primaries.specs.declared.clients.PrimaryState.{PrimaryState}
 use Rattle.play_primaries.specs.declared.clients.PrimaryState.TheVariants as state

@@ -9,3 +9,9 @@ pub mod BringLaws
 pub mod StopLaws
 pub mod PrimarySteps
 pub mod OtherSteps
+pub mod ClientEvents
+pub mod PlayReaders
+pub mod PrimaryEvents
+pub mod WorldCuts
+pub mod WorldSettling
+pub mod WorldStops

@@ -3,26 +3,26 @@ use Rattle.std.proofs.Common.{◌≡◌, ℕ, Bool, true, false, List, Option, S
 use Rattle.std.specs.Prelude.{nat_lt, slice_get}
 use Rattle.hd_base.specs.declared.numbers.BlockId.{BlockId}
 use Rattle.hd_base.specs.declared.numbers.ConnId.{ConnId}
-use Rattle.world.specs.declared.events.Caller.TheVariants as caller
-use Rattle.world.specs.declared.events.Event.{Event}
-use Rattle.world.specs.declared.events.Event.TheVariants as event
-use Rattle.world.specs.declared.events.OwnStep.TheVariants as own
-use Rattle.world.specs.declared.events.TakenCommand.{TakenCommand}
-use Rattle.world.specs.Clients.{own_writer}
-use Rattle.world.specs.Connections.{Next, next_down, next_up, down_taken, up_taken, is_served}
-use Rattle.world.specs.Events.{changed, down_as, upper_up, up_as, outcome, after_event, happens, run}
-use Rattle.world.specs.Nodes.{lower_down, lower_ready}
-use Rattle.world.specs.Parts.{Upper, by_writer, by_member, by_reader, by_primary}
-use Rattle.world.specs.Primaries.{office_event}
-use Rattle.world.specs.Worlds.{World, Change, apply}
-use Rattle.world_laws.proofs.FactTables.{when-each}
-use Rattle.world_nets.specs.Nets.{is_over}
-use Rattle.world_nets.proofs.StepLemmas.{changed-over, taken-over}
-use Rattle.writer_core.specs.declared.actions.Action.{Action}
-use Rattle.writer_core.specs.declared.actions.Action.TheVariants as action
-use Rattle.writer_core.specs.Transitions.{own_step}
-use Rattle.play_model.specs.Dues.{own_events, asking, acting}
-use Rattle.world_settling.proofs.PrimaryAsides.{Aside, lower-down-aside, lower-ready-aside, mirror-up-aside, own-writer-aside, writer-up-aside, asks-office-aside}
+use Rattle.primary_events.specs.World.Caller.TheVariants as caller
+use Rattle.primary_events.specs.World.Event.{Event}
+use Rattle.primary_events.specs.World.Event.TheVariants as event
+use Rattle.primary_events.specs.World.OwnStep.TheVariants as own
+use Rattle.primary_events.specs.World.TakenCommand.{TakenCommand}
+use Rattle.primary_events.specs.World.Clients.{own_writer}
+use Rattle.primary_events.specs.World.Connections.{Next, next_down, next_up, down_taken, up_taken, is_served}
+use Rattle.primary_events.specs.World.Events.{changed, down_as, upper_up, up_as, outcome, after_event, happens, run}
+use Rattle.primary_events.specs.World.Nodes.{lower_down, lower_ready}
+use Rattle.primary_events.specs.World.Parts.{Upper, by_writer, by_member, by_reader, by_primary}
+use Rattle.primary_events.specs.World.Primaries.{office_event}
+use Rattle.primary_events.specs.World.Worlds.{World, Change, apply}
+use Rattle.world_recoveries.proofs.WorldLaws.FactTables.{when-each}
+use Rattle.play_readers.specs.WorldNets.Nets.{is_over}
+use Rattle.play_readers.proofs.WorldNets.StepLemmas.{changed-over, taken-over}
+use Rattle.primary_events.specs.WriterCore.Action.{Action}
+use Rattle.primary_events.specs.WriterCore.Action.TheVariants as action
+use Rattle.primary_events.specs.WriterCore.Transitions.{own_step}
+use Rattle.play_readers.specs.PlayModel.Dues.{own_events, asking, acting}
+use Rattle.play_readers.proofs.WorldSettling.PrimaryAsides.{Aside, lower-down-aside, lower-ready-aside, mirror-up-aside, own-writer-aside, writer-up-aside, asks-office-aside}
 use Rattle.play_readers.proofs.OtherSteps.{put_same}
 use Rattle.play_readers.proofs.ReaderSteps as reader
 use Rattle.play_primaries.specs.Frames.{KeepsPrimaries, WritingKeepsPrimaries, AcksKeepPrimaries, DownKeepsPrimaries, ReadyKeepsPrimaries, MirrorKeepsPrimaries, AskingKeepsPrimaries, PiecesKeepPrimaries}

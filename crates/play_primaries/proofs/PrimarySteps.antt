@@ -11,25 +11,25 @@ use Rattle.recovery_core.specs.declared.primary.OwnStep.{OwnStep}
 use Rattle.recovery_core.specs.declared.primary.OwnStep.TheVariants as step
 use Rattle.recovery_core.specs.declared.standings.Standing.{Standing}
 use Rattle.recovery_core.specs.Primaries.{PrimaryState, begun_with, own_step}
-use Rattle.world.specs.declared.events.Caller.TheVariants as caller
-use Rattle.world.specs.declared.events.Event.{Event}
-use Rattle.world.specs.declared.events.Event.TheVariants as event
-use Rattle.world.specs.declared.events.OwnStep.TheVariants as own
-use Rattle.world.specs.Clients.{are_members}
-use Rattle.world.specs.Connections.{Next, next_up, up_taken, is_alive, place_of}
-use Rattle.world.specs.Events.{changed, upper_up, up_as, outcome, after_event, happens, run}
-use Rattle.world.specs.Parts.{Message, Upper, by_primary, Dialled, Place, Told, Leading, Primary, no_primary, was_told, leads, has_led, Said}
-use Rattle.world.specs.Primaries.{begins_as, begins_at, commits_step, dials_answered, hears_change, leads_step, leads_told, listens, office_event, own_primary, own_primary_as, own_recover, primary_asks, primary_commits, primary_dials, primary_up_as, recovery_message}
-use Rattle.world.specs.Worlds.{World, Change, Dial, add, put_at, apply, dial_at}
-use Rattle.world_laws.proofs.FactTables.{if-each, when-each, and-left, and-right}
-use Rattle.world_laws.proofs.GrowthLaws.{apply-grows}
-use Rattle.world_laws.proofs.StampGivens.{put-there}
-use Rattle.world_nets.specs.Ends.{IsElsewhere}
-use Rattle.world_nets.specs.Nets.{is_over}
-use Rattle.world_nets.proofs.StepLemmas.{changed-over, taken-over}
-use Rattle.world_orders.proofs.Lists.{dial-here}
-use Rattle.play_model.specs.declared.recoveries.Recovery.{Recovery}
-use Rattle.play_model.specs.Recoveries as model
+use Rattle.primary_events.specs.World.Caller.TheVariants as caller
+use Rattle.primary_events.specs.World.Event.{Event}
+use Rattle.primary_events.specs.World.Event.TheVariants as event
+use Rattle.primary_events.specs.World.OwnStep.TheVariants as own
+use Rattle.primary_events.specs.World.Clients.{are_members}
+use Rattle.primary_events.specs.World.Connections.{Next, next_up, up_taken, is_alive, place_of}
+use Rattle.primary_events.specs.World.Events.{changed, upper_up, up_as, outcome, after_event, happens, run}
+use Rattle.primary_events.specs.World.Parts.{Message, Upper, by_primary, Dialled, Place, Told, Leading, Primary, no_primary, was_told, leads, has_led, Said}
+use Rattle.primary_events.specs.World.Primaries.{begins_as, begins_at, commits_step, dials_answered, hears_change, leads_step, leads_told, listens, office_event, own_primary, own_primary_as, own_recover, primary_asks, primary_commits, primary_dials, primary_up_as, recovery_message}
+use Rattle.primary_events.specs.World.Worlds.{World, Change, Dial, add, put_at, apply, dial_at}
+use Rattle.world_recoveries.proofs.WorldLaws.FactTables.{if-each, when-each, and-left, and-right}
+use Rattle.world_recoveries.proofs.WorldLaws.GrowthLaws.{apply-grows}
+use Rattle.world_recoveries.proofs.WorldLaws.StampGivens.{put-there}
+use Rattle.play_readers.specs.WorldNets.Ends.{IsElsewhere}
+use Rattle.play_readers.specs.WorldNets.Nets.{is_over}
+use Rattle.play_readers.proofs.WorldNets.StepLemmas.{changed-over, taken-over}
+use Rattle.play_readers.proofs.WorldOrders.Lists.{dial-here}
+use Rattle.play_readers.specs.PlayModel.Recovery.{Recovery}
+use Rattle.play_readers.specs.PlayModel.Recoveries as model
 use Rattle.play_readers.specs.Frames.{KeepsNodes}
 use Rattle.play_readers.proofs.OtherSteps.{put_same}
 use Rattle.play_primaries.specs.Frames.{KeepsOthers, OwnStepsKeepOthers, HearingKeepsOthers, IsDialled, OwnKeepsNodes, OwnStepsKeepNodes, HearingKeepsNodes}

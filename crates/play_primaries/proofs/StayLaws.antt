@@ -3,10 +3,10 @@ use Rattle.std.proofs.Common.{◌≤◌, ℕ, slice_get, ◌∙◌, arith}
 use Rattle.hd_base.specs.declared.links.LinkIn as link_in
 use Rattle.hd_base.specs.declared.links.LinkOut as link_out
 use Rattle.road_traffic.specs.Showing.{Net}
-use Rattle.world.specs.Parts.{Leading}
-use Rattle.world.specs.Worlds.{World}
+use Rattle.primary_events.specs.World.Parts.{Leading}
+use Rattle.primary_events.specs.World.Worlds.{World}
 use Rattle.primary_events.proofs.HearLaws.{ConnStays, place_stays}
-use Rattle.play_model.specs.declared.recoveries.Recovery.{Recovery}
+use Rattle.play_readers.specs.PlayModel.Recovery.{Recovery}
 use Rattle.play_primaries.specs.declared.clients.PrimaryState.{PrimaryState}
 use Rattle.play_primaries.specs.declared.clients.PrimaryState.TheVariants as state
 use Rattle.play_primaries.specs.Clients.{StateShows}

@@ -9,30 +9,30 @@ use Rattle.hd_base.specs.declared.links.LinkOut as link_out
 use Rattle.hd_base.specs.declared.roads.Roads as roads
 use Rattle.recovery_core.specs.declared.primary.Recovered.{Recovered}
 use Rattle.recovery_core.specs.declared.standings.Standing.{Standing}
-use Rattle.block_recovery.specs.declared.links.Link.{Link}
-use Rattle.block_recovery.specs.declared.links.Seat.{Seat}
-use Rattle.block_recovery.specs.declared.links.Seat.TheVariants as seat
-use Rattle.block_recovery.specs.declared.primary.Primary as running
-use Rattle.block_recovery.specs.Dialling.{is_lost}
-use Rattle.block_recovery.specs.Exchanging.{BringsAll}
+use Rattle.primary_events.specs.BlockRecovery.Link.{Link}
+use Rattle.primary_events.specs.BlockRecovery.Seat.{Seat}
+use Rattle.primary_events.specs.BlockRecovery.Seat.TheVariants as seat
+use Rattle.primary_events.specs.BlockRecovery.Primary as running
+use Rattle.primary_events.specs.BlockRecovery.Dialling.{is_lost}
+use Rattle.primary_events.specs.BlockRecovery.Exchanging.{BringsAll}
 use Rattle.road_traffic.specs.Laws.{BringsShow}
 use Rattle.road_traffic.specs.Showing.{Net}
-use Rattle.world.specs.declared.events.Event.TheVariants as event
-use Rattle.world.specs.Connections.{is_alive}
-use Rattle.world.specs.Events.{happens}
-use Rattle.world.specs.Parts.{Place, by_primary, Leading, Primary, leads}
-use Rattle.world.specs.Primaries.{listens}
-use Rattle.world.specs.Worlds.{World, put}
-use Rattle.world_laws.proofs.FactTables.{and-right}
-use Rattle.world_nets.specs.Dials.{NetsStaySane}
-use Rattle.world_nets.specs.Ends.{EndsElsewhereStay}
-use Rattle.world_nets.specs.Steps.{IdleFlushesAreNets}
-use Rattle.world_orders.specs.Orders.{PrimaryIs}
-use Rattle.world_primaries.specs.Links.{AreDistinct}
+use Rattle.primary_events.specs.World.Event.TheVariants as event
+use Rattle.primary_events.specs.World.Connections.{is_alive}
+use Rattle.primary_events.specs.World.Events.{happens}
+use Rattle.primary_events.specs.World.Parts.{Place, by_primary, Leading, Primary, leads}
+use Rattle.primary_events.specs.World.Primaries.{listens}
+use Rattle.primary_events.specs.World.Worlds.{World, put}
+use Rattle.world_recoveries.proofs.WorldLaws.FactTables.{and-right}
+use Rattle.play_readers.specs.WorldNets.Dials.{NetsStaySane}
+use Rattle.play_readers.specs.WorldNets.Ends.{EndsElsewhereStay}
+use Rattle.play_readers.specs.WorldNets.Steps.{IdleFlushesAreNets}
+use Rattle.play_readers.specs.WorldOrders.Orders.{PrimaryIs}
+use Rattle.primary_events.specs.WorldPrimaries.Links.{AreDistinct}
 use Rattle.world_stops.proofs.StopLemmas.{stop_is}
 use Rattle.primary_events.specs.Leading.{AllOthersStay}
 use Rattle.primary_events.specs.Showing.{SeatShows, PlaceShows}
-use Rattle.play_model.specs.declared.recoveries.Recovery.{Recovery}
+use Rattle.play_readers.specs.PlayModel.Recovery.{Recovery}
 use Rattle.play_primaries.specs.declared.clients.PrimaryClient.{PrimaryClient}
 use Rattle.play_primaries.specs.declared.clients.PrimaryState.{PrimaryState}
 use Rattle.play_primaries.specs.declared.clients.PrimaryState.TheVariants as state

@@ -7,16 +7,16 @@ use Rattle.hd_base.specs.declared.numbers.ConnId.{ConnId}
 use Rattle.hd_base.specs.declared.roads.Roads as roads
 use Rattle.recovery_core.specs.declared.primary.Phase.{Phase}
 use Rattle.recovery_core.specs.declared.primary.Phase.TheVariants as phase
-use Rattle.block_recovery.specs.declared.primary.Primary as running
-use Rattle.block_recovery.specs.Awaiting.{waits_for, hearing_conn}
-use Rattle.block_recovery.specs.Dialling.{LinkIsKnown}
+use Rattle.primary_events.specs.BlockRecovery.Primary as running
+use Rattle.primary_events.specs.BlockRecovery.Awaiting.{waits_for, hearing_conn}
+use Rattle.primary_events.specs.BlockRecovery.Dialling.{LinkIsKnown}
 use Rattle.road_traffic.specs.Showing.{Net}
-use Rattle.world.specs.Connections.{is_alive}
-use Rattle.world.specs.Parts.{Leading, no_primary, leads, has_led}
-use Rattle.world.specs.Worlds.{World}
-use Rattle.member_events.specs.Showing.{ShowsWorld}
+use Rattle.primary_events.specs.World.Connections.{is_alive}
+use Rattle.primary_events.specs.World.Parts.{Leading, no_primary, leads, has_led}
+use Rattle.primary_events.specs.World.Worlds.{World}
+use Rattle.primary_events.specs.MemberEvents.Showing.{ShowsWorld}
 use Rattle.primary_events.specs.Showing.{PrimaryShows}
-use Rattle.play_model.specs.declared.recoveries.Recovery.{Recovery}
+use Rattle.play_readers.specs.PlayModel.Recovery.{Recovery}
 use Rattle.play_primaries.specs.declared.clients.PrimaryClient.{PrimaryClient}
 use Rattle.play_primaries.specs.declared.clients.PrimaryState.{PrimaryState}
 use Rattle.play_primaries.specs.declared.clients.PrimaryState.TheVariants as state

@@ -3,10 +3,10 @@ use Rattle.std.specs.Prelude.{◌≡◌, true, List, [], ◌∷◌}
 use Rattle.hd_base.specs.declared.links.LinkIn as link_in
 use Rattle.hd_base.specs.declared.links.LinkOut as link_out
 use Rattle.road_traffic.specs.Showing.{Net}
-use Rattle.world.specs.declared.events.Event.{Event}
-use Rattle.world.specs.Worlds.{World}
-use Rattle.play_model.specs.declared.recoveries.Recovery.{Recovery}
-use Rattle.play_model.specs.Recoveries.{all_answered, begins_so, goes_on, primary_asks, recovery_due, recovery_events}
+use Rattle.primary_events.specs.World.Event.{Event}
+use Rattle.primary_events.specs.World.Worlds.{World}
+use Rattle.play_readers.specs.PlayModel.Recovery.{Recovery}
+use Rattle.play_readers.specs.PlayModel.Recoveries.{all_answered, begins_so, goes_on, primary_asks, recovery_due, recovery_events}
 use Rattle.play_primaries.specs.declared.clients.PrimaryClient.{PrimaryClient}
 use Rattle.play_primaries.specs.declared.deeds.Deed.{Deed}
 use Rattle.play_primaries.specs.declared.deeds.Deed.TheVariants as deed

@@ -5,11 +5,11 @@ use Rattle.hd_base.specs.declared.links.LinkOut as link_out
 use Rattle.hd_base.specs.declared.numbers.ConnId.{ConnId}
 use Rattle.hd_base.specs.declared.roads.Roads as roads
 use Rattle.road_traffic.specs.Showing.{Net}
-use Rattle.world.specs.Enabled.{can_up}
-use Rattle.world.specs.Parts.{by_primary}
-use Rattle.world.specs.Worlds.{World}
+use Rattle.primary_events.specs.World.Enabled.{can_up}
+use Rattle.primary_events.specs.World.Parts.{by_primary}
+use Rattle.primary_events.specs.World.Worlds.{World}
 use Rattle.world_recoveries.specs.Recovering.{IsPlacedIn}
-use Rattle.play_model.specs.Recoveries.{recovery_due}
+use Rattle.play_readers.specs.PlayModel.Recoveries.{recovery_due}
 use Rattle.play_primaries.specs.declared.clients.PrimaryClient.{PrimaryClient}
 use Rattle.play_primaries.specs.Clients.{PrimaryClientShows, PrimaryClientStands}
 

@@ -4,16 +4,16 @@ use Rattle.hd_base.specs.declared.numbers.BlockId.{BlockId}
 use Rattle.hd_base.specs.declared.numbers.ConnId.{ConnId}
 use Rattle.hd_base.specs.declared.numbers.NodeId.{NodeId}
 use Rattle.op_headers.specs.declared.ops.ReadOp.{ReadOp}
-use Rattle.world.specs.declared.events.Event.TheVariants as event
-use Rattle.world.specs.Connections.{is_served}
-use Rattle.world.specs.Events.{happens, run}
-use Rattle.world.specs.Parts.{by_writer, by_member, by_reader, by_primary}
-use Rattle.world.specs.Worlds.{World}
-use Rattle.world_nets.specs.Nets.{is_over}
-use Rattle.play_model.specs.declared.dues.Due.TheVariants as due
-use Rattle.play_model.specs.declared.recoveries.Recovery.{Recovery}
-use Rattle.play_model.specs.Dues.{Queues, due_events}
-use Rattle.reader_events.specs.Making.{asks_event}
+use Rattle.primary_events.specs.World.Event.TheVariants as event
+use Rattle.primary_events.specs.World.Connections.{is_served}
+use Rattle.primary_events.specs.World.Events.{happens, run}
+use Rattle.primary_events.specs.World.Parts.{by_writer, by_member, by_reader, by_primary}
+use Rattle.primary_events.specs.World.Worlds.{World}
+use Rattle.play_readers.specs.WorldNets.Nets.{is_over}
+use Rattle.play_readers.specs.PlayModel.Due.TheVariants as due
+use Rattle.play_readers.specs.PlayModel.Recovery.{Recovery}
+use Rattle.play_readers.specs.PlayModel.Dues.{Queues, due_events}
+use Rattle.play_readers.specs.ReaderEvents.Making.{asks_event}
 use Rattle.play_readers.specs.Frames.{TakesNothing, TakesThere, KeepsNodes, HearKeepsNodes}
 use Rattle.play_primaries.specs.Owning.{own_events}
 

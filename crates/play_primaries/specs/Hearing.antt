@@ -5,14 +5,14 @@ use Rattle.hd_base.specs.declared.links.LinkOut as link_out
 use Rattle.hd_base.specs.declared.numbers.ConnId.{ConnId}
 use Rattle.hd_base.specs.declared.roads.Roads as roads
 use Rattle.road_traffic.specs.Showing.{Net}
-use Rattle.world.specs.declared.events.Event.TheVariants as event
-use Rattle.world.specs.Enabled.{can_up}
-use Rattle.world.specs.Events.{happens}
-use Rattle.world.specs.Parts.{by_primary}
-use Rattle.world.specs.Worlds.{World}
-use Rattle.world_orders.specs.Orders.{Ordered}
-use Rattle.world_texts.specs.Texts.{Written}
-use Rattle.client_events.specs.Showing.{OthersStay}
+use Rattle.primary_events.specs.World.Event.TheVariants as event
+use Rattle.primary_events.specs.World.Enabled.{can_up}
+use Rattle.primary_events.specs.World.Events.{happens}
+use Rattle.primary_events.specs.World.Parts.{by_primary}
+use Rattle.primary_events.specs.World.Worlds.{World}
+use Rattle.play_readers.specs.WorldOrders.Orders.{Ordered}
+use Rattle.play_readers.specs.WorldTexts.Texts.{Written}
+use Rattle.primary_events.specs.ClientEvents.Showing.{OthersStay}
 use Rattle.primary_events.specs.declared.faults.PrimaryFault.{PrimaryFault}
 use Rattle.primary_events.specs.Faults.{IsCaused}
 use Rattle.play_primaries.specs.declared.clients.PrimaryClient.{PrimaryClient}

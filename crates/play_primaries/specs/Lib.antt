@@ -7,3 +7,13 @@ pub mod Stopping
 pub mod Staying
 pub mod Frames
 pub mod Deeds
+pub mod BlockRecovery
+pub mod ClientEvents
+pub mod PlayReaders
+pub mod PrimaryEvents
+pub mod ReaderEvents
+pub mod RecoveryCore
+pub mod ReplicaFiles
+pub mod WorldCuts
+pub mod WorldNets
+pub mod WorldRecoveries

@@ -10,18 +10,18 @@ use Rattle.hd_base.specs.declared.roads.Roads as roads
 use Rattle.name_core.specs.declared.desks.Desk as desk
 use Rattle.recovery_core.specs.Primaries.{own_step}
 use Rattle.road_traffic.specs.Showing.{Net}
-use Rattle.world.specs.declared.events.Event.{Event}
-use Rattle.world.specs.Events.{run}
-use Rattle.world.specs.Parts.{Place, by_primary, Primary, leads}
-use Rattle.world.specs.Primaries.{dials_answered, numbered}
-use Rattle.world.specs.Worlds.{World}
-use Rattle.world_orders.specs.Orders.{Ordered}
-use Rattle.world_texts.specs.Texts.{Written}
+use Rattle.primary_events.specs.World.Event.{Event}
+use Rattle.primary_events.specs.World.Events.{run}
+use Rattle.primary_events.specs.World.Parts.{Place, by_primary, Primary, leads}
+use Rattle.primary_events.specs.World.Primaries.{dials_answered, numbered}
+use Rattle.primary_events.specs.World.Worlds.{World}
+use Rattle.play_readers.specs.WorldOrders.Orders.{Ordered}
+use Rattle.play_readers.specs.WorldTexts.Texts.{Written}
 use Rattle.primary_events.specs.declared.faults.PrimaryFault.{PrimaryFault}
 use Rattle.primary_events.specs.Beginning.{LowerShows, IsUnreached, IsBeginCause}
 use Rattle.primary_events.specs.Leading.{AllOthersStay, IsUpdateCause}
-use Rattle.play_model.specs.declared.recoveries.Recovery.{Recovery}
-use Rattle.play_model.specs.Recoveries.{begins_so, leads_events, primary_asks, recovery_due, recovery_events}
+use Rattle.play_readers.specs.PlayModel.Recovery.{Recovery}
+use Rattle.play_readers.specs.PlayModel.Recoveries.{begins_so, leads_events, primary_asks, recovery_due, recovery_events}
 use Rattle.play_primaries.specs.declared.clients.PrimaryClient.{PrimaryClient}
 use Rattle.play_primaries.specs.Clients.{can_act, PrimaryClientStands}
 

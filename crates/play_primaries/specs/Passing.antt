@@ -1,6 +1,6 @@
 -- What the event of a primary does to the roads.
 use Rattle.hd_base.specs.declared.roads.Roads as roads
-use Rattle.member_events.specs.Roads.{RoadsPass}
+use Rattle.primary_events.specs.MemberEvents.Roads.{RoadsPass}
 use Rattle.play_primaries.specs.declared.clients.PrimaryState.{PrimaryState}
 use Rattle.play_primaries.specs.Clients.{PrimaryIsReady}
 

@@ -4,12 +4,12 @@ use Rattle.hd_base.specs.declared.ends.Conn.{Conn}
 use Rattle.hd_base.specs.declared.links.LinkIn as link_in
 use Rattle.hd_base.specs.declared.links.LinkOut as link_out
 use Rattle.road_traffic.specs.Showing.{Net}
-use Rattle.world.specs.Connections.{is_alive}
-use Rattle.world.specs.Parts.{Leading, leads}
-use Rattle.world.specs.Worlds.{World}
-use Rattle.world_nets.specs.Nets.{IsEndOf, is_over}
+use Rattle.primary_events.specs.World.Connections.{is_alive}
+use Rattle.primary_events.specs.World.Parts.{Leading, leads}
+use Rattle.primary_events.specs.World.Worlds.{World}
+use Rattle.play_readers.specs.WorldNets.Nets.{IsEndOf, is_over}
 use Rattle.primary_events.specs.Showing.{IsShut}
-use Rattle.play_model.specs.declared.recoveries.Recovery.{Recovery}
+use Rattle.play_readers.specs.PlayModel.Recovery.{Recovery}
 use Rattle.play_primaries.specs.declared.clients.PrimaryClient.{PrimaryClient}
 use Rattle.play_primaries.specs.Clients.{PrimaryClientShows}
 

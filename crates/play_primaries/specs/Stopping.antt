@@ -5,17 +5,17 @@ use Rattle.hd_base.specs.declared.ends.Conn.{Conn}
 use Rattle.hd_base.specs.declared.links.LinkIn as link_in
 use Rattle.hd_base.specs.declared.links.LinkOut as link_out
 use Rattle.hd_base.specs.declared.roads.Roads as roads
-use Rattle.block_recovery.specs.declared.links.Seat.{Seat}
-use Rattle.block_recovery.specs.Dialling.{is_lost}
-use Rattle.block_recovery.specs.Exchanging.{BringsAll}
+use Rattle.primary_events.specs.BlockRecovery.Seat.{Seat}
+use Rattle.primary_events.specs.BlockRecovery.Dialling.{is_lost}
+use Rattle.primary_events.specs.BlockRecovery.Exchanging.{BringsAll}
 use Rattle.road_traffic.specs.Showing.{Net}
-use Rattle.world.specs.declared.events.Event.TheVariants as event
-use Rattle.world.specs.Events.{happens}
-use Rattle.world.specs.Parts.{by_primary}
-use Rattle.world.specs.Worlds.{World}
-use Rattle.world_nets.specs.Nets.{IsEndOf}
-use Rattle.world_orders.specs.Orders.{Ordered}
-use Rattle.member_events.specs.Showing.{ShowsWorld}
+use Rattle.primary_events.specs.World.Event.TheVariants as event
+use Rattle.primary_events.specs.World.Events.{happens}
+use Rattle.primary_events.specs.World.Parts.{by_primary}
+use Rattle.primary_events.specs.World.Worlds.{World}
+use Rattle.play_readers.specs.WorldNets.Nets.{IsEndOf}
+use Rattle.play_readers.specs.WorldOrders.Orders.{Ordered}
+use Rattle.primary_events.specs.MemberEvents.Showing.{ShowsWorld}
 use Rattle.primary_events.specs.Leading.{AllOthersStay}
 use Rattle.play_primaries.specs.declared.clients.PrimaryClient.{PrimaryClient}
 use Rattle.play_primaries.specs.Clients.{PrimaryClientShows, PrimaryClientStands}

@@ -1,13 +1,13 @@
 //! The primary of a line.
 
 ghost use Rattle.std.specs.Prelude.{◌≡◌};
-ghost use Rattle.member_events.specs.Roads.{RoadsPass};
+ghost use Rattle.primary_events.specs.MemberEvents.Roads.{RoadsPass};
 ghost use Rattle.play_primaries.specs.Clients.{can_act, is_conn, hears_on};
 ghost use Rattle.play_primaries.specs.Dues.{TellsStep, TellsPrimary};
 
-use block_recovery::Primary;
 use hd_base::{ConnId, LinkIn, LinkOut, Roads, Standing};
-use play_model::Recovery;
+use play_readers::Recovery;
+use primary_events::Primary;
 use recovery_core::Recovered;
 use road_traffic::standing;
 

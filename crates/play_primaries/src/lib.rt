@@ -15,3 +15,9 @@ pub use frames::{
     members_keep_primaries, primaries_keep_nodes, primaries_keep_others, primary_clients_stay,
     readers_keep_primaries, writers_keep_primaries,
 };
+pub use play_readers::{
+    ReadClient, ReadState, ReaderFault, members_keep_readers, nets_carry, read_clients_stay,
+    readers_keep_nodes, readers_keep_others, readers_take_in_order, writers_keep_readers,
+};
+pub use primary_events::PrimaryFault;
+pub use world_stops::{cuts_are_losses, ends_stay_in_cuts};

@@ -1,20 +1,21 @@
 //! The own step of a primary.
 
 ghost use Rattle.std.specs.Prelude.{◌≡◌, true, All, IfOk};
-ghost use Rattle.block_recovery.specs.Steps.{IsNew};
+ghost use Rattle.primary_events.specs.BlockRecovery.Steps.{IsNew};
 ghost use Rattle.primary_events.specs.Beginning.{LowerIsKnown};
-ghost use Rattle.world.specs.Clients.{are_members};
+ghost use Rattle.primary_events.specs.World.Clients.{are_members};
 ghost use Rattle.play_primaries.specs.declared.clients.PrimaryState.TheVariants as PrimaryState;
 ghost use Rattle.play_primaries.specs.Clients.{IsReady, PrimaryIsReady};
 ghost use Rattle.play_primaries.specs.Owning.{OwnShows, OwnIsIdle};
 ghost use Rattle.play_primaries.specs.Passing.{PrimaryPasses};
 
 use crate::clients::{PrimaryClient, PrimaryState};
-use block_recovery::{Primary, PrimaryStep};
 use hd_base::{Conn, LinkIn, LinkOut, Members, Roads};
 use name_core::Desk;
-use play_model::Recovery;
-use primary_events::{PrimaryBegun, PrimaryFault, begin, lead, primaries_can_lead};
+use play_readers::Recovery;
+use primary_events::{
+    Primary, PrimaryBegun, PrimaryFault, PrimaryStep, begin, lead, primaries_can_lead,
+};
 use std::alloc::Global;
 use std::mem;
 

@@ -1,19 +1,19 @@
 //! The node of a primary has stopped.
 
 ghost use Rattle.std.specs.Prelude.{◌≡◌, false, All, OnOk};
-ghost use Rattle.block_recovery.specs.Dialling.{LinkIsKnown};
-ghost use Rattle.member_events.specs.Roads.{RoadsPass};
+ghost use Rattle.primary_events.specs.BlockRecovery.Dialling.{LinkIsKnown};
+ghost use Rattle.primary_events.specs.MemberEvents.Roads.{RoadsPass};
 ghost use Rattle.play_primaries.specs.Clients.{PrimaryIsReady};
 ghost use Rattle.play_primaries.specs.Passing.{PrimaryPasses};
 ghost use Rattle.play_primaries.specs.Stopping.{EndsAreBrought, StopShows};
 
 use crate::clients::{PrimaryClient, PrimaryState};
-use block_recovery::Primary;
 use hd_base::{LinkIn, LinkOut, Roads};
+use play_readers::{ends_elsewhere_stay, idle_flushes_are_nets, nets_stay_sane};
+use primary_events::Primary;
 use road_traffic::brings_show;
 use std::alloc::{AllocError, Global};
 use std::mem;
-use world_nets::{ends_elsewhere_stay, idle_flushes_are_nets, nets_stay_sane};
 
 impl<I: LinkIn, O: LinkOut> PrimaryClient<I, O> {
     /// Once its node has stopped, a primary that hasn't begun never does, and the ends of one that leads are brought

@@ -6,8 +6,8 @@ use Rattle.hd_base.specs.declared.numbers.BlockId.{BlockId}
 use Rattle.op_headers.specs.declared.ops.Op.TheVariants as op
 use Rattle.op_headers.proofs.FormatLemmas.{block_fits, read_fits}
 use Rattle.op_headers.proofs.RoomLemmas.{op_few}
-use Rattle.writer_core.specs.Requests.{client_name}
-use Rattle.world_texts.specs.Texts.{CanBeAsked}
+use Rattle.reader_events.specs.WriterCore.Requests.{client_name}
+use Rattle.reader_events.specs.WorldTexts.Texts.{CanBeAsked}
 use Rattle.play_model.specs.declared.asks.ReadAsk.{ReadAsk}
 use Rattle.play_model.specs.Asks.{request_of}
 

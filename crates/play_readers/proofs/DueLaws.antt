@@ -10,14 +10,14 @@ use Rattle.hd_base.specs.declared.links.LinkOut as link_out
 use Rattle.hd_base.specs.declared.numbers.ConnId.{ConnId}
 use Rattle.hd_base.specs.declared.roads.Roads as roads
 use Rattle.road_traffic.specs.Showing.{Net, RoadsShow, ShowsStanding}
-use Rattle.visible_read.specs.declared.reading.Reading.{Reading}
-use Rattle.world.specs.Connections.{next_up}
-use Rattle.world.specs.Enabled.{reads_from, takes_above}
-use Rattle.world.specs.Parts.{Upper, Reader, no_reader, reads, has_read}
-use Rattle.world.specs.Worlds.{World}
-use Rattle.world_nets.specs.Rows.{rows_of}
-use Rattle.member_events.specs.Roads.{RoadsPass}
-use Rattle.member_events.specs.Showing.{ShowsWorld}
+use Rattle.reader_events.specs.VisibleRead.Reading.{Reading}
+use Rattle.play_model.specs.World.Connections.{next_up}
+use Rattle.play_model.specs.World.Enabled.{reads_from, takes_above}
+use Rattle.play_model.specs.World.Parts.{Upper, Reader, no_reader, reads, has_read}
+use Rattle.play_model.specs.World.Worlds.{World}
+use Rattle.world_standings.specs.WorldNets.Rows.{rows_of}
+use Rattle.reader_events.specs.MemberEvents.Roads.{RoadsPass}
+use Rattle.reader_events.specs.MemberEvents.Showing.{ShowsWorld}
 use Rattle.reader_events.specs.Orders.{ReadersTakeInOrder}
 use Rattle.play_model.specs.declared.asks.ReadAsk.{ReadAsk}
 use Rattle.play_model.specs.Dues.{is_unbegun}

@@ -6,15 +6,15 @@ use Rattle.hd_base.specs.declared.links.LinkOut as link_out
 use Rattle.hd_base.specs.declared.numbers.ConnId.{ConnId}
 use Rattle.hd_base.specs.declared.roads.Roads as roads
 use Rattle.road_traffic.specs.Showing.{Net}
-use Rattle.visible_read.specs.declared.reading.Reading.{Reading}
-use Rattle.world.specs.declared.events.Event.TheVariants as event
-use Rattle.world.specs.Connections.{Next, next_up}
-use Rattle.world.specs.Enabled.{can_up, reads_from, takes_above}
-use Rattle.world.specs.Events.{happens}
-use Rattle.world.specs.Parts.{Upper, by_reader, Reader}
-use Rattle.world.specs.Worlds.{World}
-use Rattle.world_laws.proofs.FactTables.{and-left, and-right}
-use Rattle.world_nets.specs.Drawn.{ComesUp}
+use Rattle.reader_events.specs.VisibleRead.Reading.{Reading}
+use Rattle.play_model.specs.World.Event.TheVariants as event
+use Rattle.play_model.specs.World.Connections.{Next, next_up}
+use Rattle.play_model.specs.World.Enabled.{can_up, reads_from, takes_above}
+use Rattle.play_model.specs.World.Events.{happens}
+use Rattle.play_model.specs.World.Parts.{Upper, by_reader, Reader}
+use Rattle.play_model.specs.World.Worlds.{World}
+use Rattle.play_model.proofs.WorldLaws.FactTables.{and-left, and-right}
+use Rattle.world_standings.specs.WorldNets.Drawn.{ComesUp}
 use Rattle.reader_events.specs.declared.faults.ReaderFault.{ReaderFault}
 use Rattle.reader_events.specs.declared.hearing.Heard.{Heard}
 use Rattle.reader_events.specs.declared.hearing.Heard.TheVariants as heard

@@ -5,3 +5,7 @@ pub mod HearLaws
 pub mod StayLaws
 pub mod OtherSteps
 pub mod ReaderSteps
+pub mod WorldNets
+pub mod WorldOrders
+pub mod WorldSettling
+pub mod WorldStandings

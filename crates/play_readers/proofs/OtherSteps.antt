@@ -3,27 +3,27 @@ use Rattle.std.proofs.Common.{◌≡◌, ℕ, Bool, true, false, List, Option, S
 use Rattle.std.specs.Prelude.{◌==◌, nat_lt, slice_get}
 use Rattle.hd_base.specs.declared.numbers.BlockId.{BlockId}
 use Rattle.hd_base.specs.declared.numbers.ConnId.{ConnId}
-use Rattle.world.specs.declared.events.Caller.TheVariants as caller
-use Rattle.world.specs.declared.events.Event.{Event}
-use Rattle.world.specs.declared.events.Event.TheVariants as event
-use Rattle.world.specs.declared.events.OwnStep.TheVariants as own
-use Rattle.world.specs.declared.events.TakenCommand.{TakenCommand}
-use Rattle.world.specs.Clients.{own_writer}
-use Rattle.world.specs.Connections.{Next, next_down, next_up, down_taken, up_taken, is_served}
-use Rattle.world.specs.Events.{changed, down_as, upper_up, up_as, outcome, after_event, happens, run}
-use Rattle.world.specs.Nodes.{lower_down, lower_ready}
-use Rattle.world.specs.Parts.{Upper, by_writer, by_member, by_reader}
-use Rattle.world.specs.Primaries.{office_event}
-use Rattle.world.specs.Worlds.{World, Change, put, apply}
-use Rattle.world_laws.proofs.FactTables.{if-each, when-each}
-use Rattle.world_nets.specs.Nets.{is_over}
-use Rattle.world_nets.proofs.StepLemmas.{changed-over, taken-over}
-use Rattle.writer_core.specs.declared.actions.Action.{Action}
-use Rattle.writer_core.specs.declared.actions.Action.TheVariants as action
-use Rattle.writer_core.specs.Transitions.{own_step}
+use Rattle.play_model.specs.World.Caller.TheVariants as caller
+use Rattle.play_model.specs.World.Event.{Event}
+use Rattle.play_model.specs.World.Event.TheVariants as event
+use Rattle.play_model.specs.World.OwnStep.TheVariants as own
+use Rattle.play_model.specs.World.TakenCommand.{TakenCommand}
+use Rattle.play_model.specs.World.Clients.{own_writer}
+use Rattle.play_model.specs.World.Connections.{Next, next_down, next_up, down_taken, up_taken, is_served}
+use Rattle.play_model.specs.World.Events.{changed, down_as, upper_up, up_as, outcome, after_event, happens, run}
+use Rattle.play_model.specs.World.Nodes.{lower_down, lower_ready}
+use Rattle.play_model.specs.World.Parts.{Upper, by_writer, by_member, by_reader}
+use Rattle.play_model.specs.World.Primaries.{office_event}
+use Rattle.play_model.specs.World.Worlds.{World, Change, put, apply}
+use Rattle.play_model.proofs.WorldLaws.FactTables.{if-each, when-each}
+use Rattle.world_standings.specs.WorldNets.Nets.{is_over}
+use Rattle.world_standings.proofs.WorldNets.StepLemmas.{changed-over, taken-over}
+use Rattle.reader_events.specs.WriterCore.Action.{Action}
+use Rattle.reader_events.specs.WriterCore.Action.TheVariants as action
+use Rattle.reader_events.specs.WriterCore.Transitions.{own_step}
 use Rattle.play_model.specs.Dues.{own_events, asking, acting}
-use Rattle.world_settling.proofs.ReaderAsides.{own-writer-stays, writer-up-stays, office-stays}
-use Rattle.world_settling.proofs.ReaderNodeAsides.{Stays, lower-down-stays, lower-ready-stays, mirror-up-stays}
+use Rattle.reader_events.proofs.WorldSettling.ReaderAsides.{own-writer-stays, writer-up-stays, office-stays}
+use Rattle.reader_events.proofs.WorldSettling.ReaderNodeAsides.{Stays, lower-down-stays, lower-ready-stays, mirror-up-stays}
 use Rattle.play_readers.specs.Frames.{KeepsReaders, OwnStepsKeepReaders, HearingKeepsReaders, DownKeepsReaders, ReadyKeepsReaders, MirrorKeepsReaders}
 
 -- a table with what stood there already

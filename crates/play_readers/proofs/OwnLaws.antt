@@ -5,12 +5,12 @@ use Rattle.hd_base.specs.declared.links.LinkIn as link_in
 use Rattle.hd_base.specs.declared.links.LinkOut as link_out
 use Rattle.hd_base.specs.declared.numbers.ConnId.{ConnId}
 use Rattle.hd_base.specs.declared.roads.Roads as roads
-use Rattle.read_core.specs.declared.reading.ReadFault.TheVariants as read_fault
+use Rattle.reader_events.specs.ReadCore.ReadFault.TheVariants as read_fault
 use Rattle.road_traffic.specs.Showing.{Net}
-use Rattle.visible_read.specs.declared.reading.Reading.{Reading}
-use Rattle.world.specs.Events.{happens}
-use Rattle.world.specs.Parts.{no_reader, reads}
-use Rattle.world.specs.Worlds.{World}
+use Rattle.reader_events.specs.VisibleRead.Reading.{Reading}
+use Rattle.play_model.specs.World.Events.{happens}
+use Rattle.play_model.specs.World.Parts.{no_reader, reads}
+use Rattle.play_model.specs.World.Worlds.{World}
 use Rattle.reader_events.specs.declared.asking.Asked.TheVariants as left_by
 use Rattle.reader_events.specs.declared.faults.ReaderFault.{ReaderFault}
 use Rattle.reader_events.specs.Asking.{AskShows, NodeAsked, NodeSilent}

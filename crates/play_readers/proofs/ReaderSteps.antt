@@ -6,23 +6,23 @@ use Rattle.std.proofs.lemmas.List.{append-nil}
 use Rattle.hd_base.specs.declared.numbers.ConnId.{ConnId}
 use Rattle.hd_base.specs.declared.numbers.NodeId.{NodeId}
 use Rattle.op_headers.specs.declared.ops.ReadOp.{ReadOp}
-use Rattle.read_core.specs.declared.reading.ReadTurn.{ReadTurn}
-use Rattle.read_core.specs.declared.reading.ReadTurn.TheVariants as turn
-use Rattle.read_core.specs.Readings.{ReadTaken, take_from}
-use Rattle.world.specs.declared.events.Event.{Event}
-use Rattle.world.specs.declared.events.Event.TheVariants as event
-use Rattle.world.specs.Clients.{from_node_of, own_reader, own_reader_as, reader_dials, reader_turn, reader_up_as}
-use Rattle.world.specs.Connections.{Next, next_up, up_taken, is_alive}
-use Rattle.world.specs.Events.{changed, upper_up, up_as, outcome, after_event, happens}
-use Rattle.world.specs.Parts.{Upper, by_reader, Dialled, Reader, no_reader, reads, has_read, Said}
-use Rattle.world.specs.Worlds.{World, Change, Dial, add, put_at, apply, dial_at}
-use Rattle.world_laws.proofs.FactTables.{if-each, when-each, and-left, and-right}
-use Rattle.world_laws.proofs.GrowthLaws.{apply-grows}
-use Rattle.world_laws.proofs.StampGivens.{put-there}
-use Rattle.world_nets.specs.Ends.{IsElsewhere}
-use Rattle.world_nets.specs.Nets.{is_over}
-use Rattle.world_nets.proofs.StepLemmas.{changed-over, taken-over, next-conn}
-use Rattle.world_orders.proofs.Lists.{dial-here}
+use Rattle.reader_events.specs.ReadCore.ReadTurn.{ReadTurn}
+use Rattle.reader_events.specs.ReadCore.ReadTurn.TheVariants as turn
+use Rattle.reader_events.specs.ReadCore.Readings.{ReadTaken, take_from}
+use Rattle.play_model.specs.World.Event.{Event}
+use Rattle.play_model.specs.World.Event.TheVariants as event
+use Rattle.play_model.specs.World.Clients.{from_node_of, own_reader, own_reader_as, reader_dials, reader_turn, reader_up_as}
+use Rattle.play_model.specs.World.Connections.{Next, next_up, up_taken, is_alive}
+use Rattle.play_model.specs.World.Events.{changed, upper_up, up_as, outcome, after_event, happens}
+use Rattle.play_model.specs.World.Parts.{Upper, by_reader, Dialled, Reader, no_reader, reads, has_read, Said}
+use Rattle.play_model.specs.World.Worlds.{World, Change, Dial, add, put_at, apply, dial_at}
+use Rattle.play_model.proofs.WorldLaws.FactTables.{if-each, when-each, and-left, and-right}
+use Rattle.play_model.proofs.WorldLaws.GrowthLaws.{apply-grows}
+use Rattle.play_model.proofs.WorldLaws.StampGivens.{put-there}
+use Rattle.world_standings.specs.WorldNets.Ends.{IsElsewhere}
+use Rattle.world_standings.specs.WorldNets.Nets.{is_over}
+use Rattle.world_standings.proofs.WorldNets.StepLemmas.{changed-over, taken-over, next-conn}
+use Rattle.reader_events.proofs.WorldOrders.Lists.{dial-here}
 use Rattle.reader_events.specs.Making.{asks_event}
 use Rattle.play_readers.specs.Frames.{KeepsOthers, AskKeepsNodes, AskingKeepsOthers, HearingKeepsOthers, AskingKeepsNodes, HearingKeepsNodes}
 use Rattle.play_readers.proofs.OtherSteps.{put_same}

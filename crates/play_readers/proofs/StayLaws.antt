@@ -3,7 +3,7 @@ use Rattle.std.proofs.Common.{ℕ, sym, ◌∙◌}
 use Rattle.hd_base.specs.declared.links.LinkIn as link_in
 use Rattle.hd_base.specs.declared.links.LinkOut as link_out
 use Rattle.road_traffic.specs.Showing.{Net}
-use Rattle.world.specs.Worlds.{World}
+use Rattle.play_model.specs.World.Worlds.{World}
 use Rattle.play_readers.specs.declared.clients.ReadState.{ReadState}
 use Rattle.play_readers.specs.declared.clients.ReadState.TheVariants as state
 use Rattle.play_readers.specs.Clients.{StateShows}

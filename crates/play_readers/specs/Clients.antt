@@ -7,10 +7,10 @@ use Rattle.hd_base.specs.declared.links.LinkOut as link_out
 use Rattle.hd_base.specs.declared.numbers.ConnId.{ConnId}
 use Rattle.hd_base.specs.declared.roads.Roads as roads
 use Rattle.road_traffic.specs.Showing.{Net}
-use Rattle.visible_read.specs.declared.reading.Reading.{Reading}
-use Rattle.world.specs.Parts.{no_reader, has_read}
-use Rattle.world.specs.Worlds.{World}
-use Rattle.member_events.specs.Showing.{ShowsWorld}
+use Rattle.reader_events.specs.VisibleRead.Reading.{Reading}
+use Rattle.play_model.specs.World.Parts.{no_reader, has_read}
+use Rattle.play_model.specs.World.Worlds.{World}
+use Rattle.reader_events.specs.MemberEvents.Showing.{ShowsWorld}
 use Rattle.reader_events.specs.Hearing.{bytes_read}
 use Rattle.reader_events.specs.Showing.{ReadingShows}
 use Rattle.play_readers.specs.declared.clients.ReadClient.{ReadClient}

@@ -5,10 +5,10 @@ use Rattle.hd_base.specs.declared.links.LinkOut as link_out
 use Rattle.hd_base.specs.declared.numbers.ConnId.{ConnId}
 use Rattle.hd_base.specs.declared.roads.Roads as roads
 use Rattle.road_traffic.specs.Showing.{Net}
-use Rattle.world.specs.Enabled.{can_up}
-use Rattle.world.specs.Events.{is_enabled}
-use Rattle.world.specs.Parts.{by_reader, Reader, reads}
-use Rattle.world.specs.Worlds.{World}
+use Rattle.play_model.specs.World.Enabled.{can_up}
+use Rattle.play_model.specs.World.Events.{is_enabled}
+use Rattle.play_model.specs.World.Parts.{by_reader, Reader, reads}
+use Rattle.play_model.specs.World.Worlds.{World}
 use Rattle.reader_events.specs.Orders.{ReadersTakeInOrder}
 use Rattle.play_model.specs.declared.dues.Due.TheVariants as due
 use Rattle.play_model.specs.Asks.{asking_node}

@@ -4,13 +4,13 @@ use Rattle.hd_base.specs.declared.numbers.BlockId.{BlockId}
 use Rattle.hd_base.specs.declared.numbers.ConnId.{ConnId}
 use Rattle.hd_base.specs.declared.numbers.NodeId.{NodeId}
 use Rattle.op_headers.specs.declared.ops.ReadOp.{ReadOp}
-use Rattle.world.specs.declared.events.Event.TheVariants as event
-use Rattle.world.specs.Connections.{is_served}
-use Rattle.world.specs.Events.{happens, run}
-use Rattle.world.specs.Parts.{by_writer, by_member, by_reader}
-use Rattle.world.specs.Worlds.{World}
-use Rattle.world_nets.specs.Ends.{IsElsewhere}
-use Rattle.world_nets.specs.Nets.{is_over}
+use Rattle.play_model.specs.World.Event.TheVariants as event
+use Rattle.play_model.specs.World.Connections.{is_served}
+use Rattle.play_model.specs.World.Events.{happens, run}
+use Rattle.play_model.specs.World.Parts.{by_writer, by_member, by_reader}
+use Rattle.play_model.specs.World.Worlds.{World}
+use Rattle.world_standings.specs.WorldNets.Ends.{IsElsewhere}
+use Rattle.world_standings.specs.WorldNets.Nets.{is_over}
 use Rattle.play_model.specs.declared.dues.Due.TheVariants as due
 use Rattle.play_model.specs.Dues.{Queues, due_events}
 use Rattle.reader_events.specs.Making.{asks_event}

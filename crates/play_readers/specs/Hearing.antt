@@ -5,14 +5,14 @@ use Rattle.hd_base.specs.declared.links.LinkOut as link_out
 use Rattle.hd_base.specs.declared.numbers.ConnId.{ConnId}
 use Rattle.hd_base.specs.declared.roads.Roads as roads
 use Rattle.road_traffic.specs.Showing.{Net}
-use Rattle.visible_read.specs.declared.reading.Reading.{Reading}
-use Rattle.world.specs.declared.events.Event.TheVariants as event
-use Rattle.world.specs.Enabled.{can_up}
-use Rattle.world.specs.Events.{happens}
-use Rattle.world.specs.Parts.{by_reader}
-use Rattle.world.specs.Worlds.{World}
-use Rattle.world_texts.specs.Texts.{Written}
-use Rattle.client_events.specs.Showing.{OthersStay}
+use Rattle.reader_events.specs.VisibleRead.Reading.{Reading}
+use Rattle.play_model.specs.World.Event.TheVariants as event
+use Rattle.play_model.specs.World.Enabled.{can_up}
+use Rattle.play_model.specs.World.Events.{happens}
+use Rattle.play_model.specs.World.Parts.{by_reader}
+use Rattle.play_model.specs.World.Worlds.{World}
+use Rattle.reader_events.specs.WorldTexts.Texts.{Written}
+use Rattle.reader_events.specs.ClientEvents.Showing.{OthersStay}
 use Rattle.reader_events.specs.declared.faults.ReaderFault.{ReaderFault}
 use Rattle.reader_events.specs.declared.hearing.Heard.{Heard}
 use Rattle.reader_events.specs.declared.hearing.Heard.TheVariants as heard

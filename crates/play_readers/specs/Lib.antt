@@ -6,3 +6,9 @@ pub mod Hearing
 pub mod Staying
 pub mod Frames
 pub mod Asks
+pub mod PlayModel
+pub mod ReaderEvents
+pub mod WorldNets
+pub mod WorldOrders
+pub mod WorldStandings
+pub mod WorldTexts

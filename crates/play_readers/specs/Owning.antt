@@ -7,11 +7,11 @@ use Rattle.hd_base.specs.declared.links.LinkIn as link_in
 use Rattle.hd_base.specs.declared.links.LinkOut as link_out
 use Rattle.hd_base.specs.declared.roads.Roads as roads
 use Rattle.road_traffic.specs.Showing.{Net}
-use Rattle.world.specs.Events.{happens}
-use Rattle.world.specs.Parts.{by_reader}
-use Rattle.world.specs.Worlds.{World}
-use Rattle.world_nets.specs.Nets.{IsEndOf}
-use Rattle.client_events.specs.Showing.{OthersStay}
+use Rattle.play_model.specs.World.Events.{happens}
+use Rattle.play_model.specs.World.Parts.{by_reader}
+use Rattle.play_model.specs.World.Worlds.{World}
+use Rattle.world_standings.specs.WorldNets.Nets.{IsEndOf}
+use Rattle.reader_events.specs.ClientEvents.Showing.{OthersStay}
 use Rattle.reader_events.specs.declared.faults.ReaderFault.{ReaderFault}
 use Rattle.reader_events.specs.Asking.{CanAsk}
 use Rattle.reader_events.specs.Faults.{IsCaused}

@@ -1,8 +1,8 @@
 -- What the event of a reading client does to the roads, and what is left of a client that has failed.
 use Rattle.std.specs.Prelude.{◌≡◌, Err}
 use Rattle.hd_base.specs.declared.roads.Roads as roads
-use Rattle.read_core.specs.declared.reading.ReadFault.TheVariants as read_fault
-use Rattle.member_events.specs.Roads.{RoadsPass}
+use Rattle.reader_events.specs.ReadCore.ReadFault.TheVariants as read_fault
+use Rattle.reader_events.specs.MemberEvents.Roads.{RoadsPass}
 use Rattle.play_readers.specs.declared.clients.ReadClient.{ReadClient}
 use Rattle.play_readers.specs.declared.clients.ReadState.TheVariants as state
 use Rattle.play_readers.specs.Clients.{ReadIsReady}

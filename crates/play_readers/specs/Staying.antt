@@ -3,11 +3,11 @@ use Rattle.std.specs.Prelude.{◌≡◌, ℕ, false}
 use Rattle.hd_base.specs.declared.ends.Conn.{Conn}
 use Rattle.hd_base.specs.declared.links.LinkIn as link_in
 use Rattle.hd_base.specs.declared.links.LinkOut as link_out
-use Rattle.read_core.specs.Readings.{ReadingState}
+use Rattle.reader_events.specs.ReadCore.Readings.{ReadingState}
 use Rattle.road_traffic.specs.Showing.{Net}
-use Rattle.world.specs.Parts.{reads}
-use Rattle.world.specs.Worlds.{World}
-use Rattle.world_nets.specs.Nets.{IsEndOf, is_over}
+use Rattle.play_model.specs.World.Parts.{reads}
+use Rattle.play_model.specs.World.Worlds.{World}
+use Rattle.world_standings.specs.WorldNets.Nets.{IsEndOf, is_over}
 use Rattle.play_readers.specs.declared.clients.ReadClient.{ReadClient}
 use Rattle.play_readers.specs.Clients.{ReadClientShows}
 

@@ -1,7 +1,7 @@
 //! The request for what a line of a script asks to read.
 
 ghost use Rattle.std.specs.Prelude.{◌≡◌, IfOk};
-ghost use Rattle.world_texts.specs.Texts.{CanBeAsked};
+ghost use Rattle.reader_events.specs.WorldTexts.Texts.{CanBeAsked};
 ghost use Rattle.play_model.specs.Asks.{request_of};
 
 use op_headers::ReadOp;

@@ -1,15 +1,14 @@
 //! The reading client of a line.
 
 ghost use Rattle.std.specs.Prelude.{◌≡◌};
-ghost use Rattle.member_events.specs.Roads.{RoadsPass};
+ghost use Rattle.reader_events.specs.MemberEvents.Roads.{RoadsPass};
 ghost use Rattle.play_readers.specs.Clients.{is_new, conn_of, reads_over};
 ghost use Rattle.play_readers.specs.Dues.{TellsStep, TellsBegins, TellsConn, TellsReader};
 
 use hd_base::{ConnId, LinkIn, LinkOut, Roads, Standing};
 use play_model::ReadAsk;
-use read_core::ReadFault;
+use reader_events::{ReadFault, Reading};
 use road_traffic::standing;
-use visible_read::Reading;
 
 /// The reading client of a line of a play.
 #[derive(Drop)]

@@ -1,15 +1,14 @@
 //! What a reading client hears on its connection.
 
 ghost use Rattle.std.specs.Prelude.{IfOk, IfErr};
-ghost use Rattle.member_events.specs.Roads.{RoadsPass};
+ghost use Rattle.reader_events.specs.MemberEvents.Roads.{RoadsPass};
 ghost use Rattle.play_readers.specs.Clients.{ReadIsReady};
 ghost use Rattle.play_readers.specs.Hearing.{StateHears, HearShows, HearIsIdle};
 ghost use Rattle.play_readers.specs.Passing.{HasEnded, ReadClientPasses};
 
 use crate::clients::{ReadClient, ReadState};
 use hd_base::{LinkIn, LinkOut, Roads};
-use read_core::ReadFault;
-use reader_events::{Heard, ReaderFault, hear};
+use reader_events::{Heard, ReadFault, ReaderFault, hear};
 use std::alloc::Global;
 use std::mem;
 

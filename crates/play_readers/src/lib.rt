@@ -13,3 +13,6 @@ pub use frames::{
     members_keep_readers, read_clients_stay, readers_keep_nodes, readers_keep_others,
     writers_keep_readers,
 };
+pub use play_model::Recovery;
+pub use reader_events::{ReaderFault, readers_take_in_order};
+pub use world_standings::{ends_elsewhere_stay, idle_flushes_are_nets, nets_carry, nets_stay_sane};

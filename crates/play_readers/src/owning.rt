@@ -1,8 +1,8 @@
 //! The own step of a reading client.
 
 ghost use Rattle.std.specs.Prelude.{◌≡◌, true, IfOk, IfErr};
-ghost use Rattle.member_events.specs.Roads.{RoadsPass};
-ghost use Rattle.world_texts.specs.Texts.{CanBeAsked};
+ghost use Rattle.reader_events.specs.MemberEvents.Roads.{RoadsPass};
+ghost use Rattle.reader_events.specs.WorldTexts.Texts.{CanBeAsked};
 ghost use Rattle.reader_events.specs.Asking.{AskShows, AskedIsOpen, AskedIsKnown};
 ghost use Rattle.play_model.specs.Asks.{request_of};
 ghost use Rattle.play_readers.specs.Clients.{is_new, ReadIsReady};
@@ -13,8 +13,7 @@ use crate::asks::request;
 use crate::clients::{ReadClient, ReadState};
 use hd_base::{Conn, LinkIn, LinkOut, Roads};
 use play_model::ReadAsk;
-use read_core::ReadFault;
-use reader_events::{Asked, ReaderFault, ask};
+use reader_events::{Asked, ReadFault, ReaderFault, ask};
 use std::alloc::Global;
 
 impl<I: LinkIn, O: LinkOut> ReadClient<I, O> {

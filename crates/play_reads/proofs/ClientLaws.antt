@@ -8,18 +8,18 @@ use Rattle.hd_base.specs.declared.roads.Roads as roads
 use Rattle.road_traffic.specs.Showing.{Net, RoadsShow}
 use Rattle.world.specs.Parts.{Upper, by_writer, by_member, by_reader, no_reader}
 use Rattle.world.specs.Worlds.{World}
-use Rattle.world_nets.specs.Nets.{IsEndOf, is_over}
-use Rattle.world_orders.specs.Orders.{Ordered, purpose_of, pipeline, reading, recovering}
-use Rattle.play_model.specs.declared.asks.ReadAsk.{ReadAsk}
+use Rattle.play_servers.specs.WorldNets.Nets.{IsEndOf, is_over}
+use Rattle.play_nodes.specs.WorldOrders.Orders.{Ordered, purpose_of, pipeline, reading, recovering}
+use Rattle.play_nodes.specs.PlayModel.ReadAsk.{ReadAsk}
 use Rattle.play_nodes.proofs.MemberNodes.{known}
 use Rattle.play_nodes.proofs.Tables.{SetOr, set_or, set_here, set_there, same_or}
-use Rattle.play_readers.specs.declared.clients.ReadClient.{ReadClient}
-use Rattle.play_readers.specs.declared.clients.ReadState.{ReadState}
-use Rattle.play_readers.specs.declared.clients.ReadState.TheVariants as state
-use Rattle.play_readers.specs.Clients.{StateShows, ReadClientShows, ReadIsReady}
-use Rattle.play_readers.specs.Staying.{KeepsReadClient, ReadClientsStay}
+use Rattle.play_primaries.specs.PlayReaders.ReadClient.{ReadClient}
+use Rattle.play_primaries.specs.PlayReaders.ReadState.{ReadState}
+use Rattle.play_primaries.specs.PlayReaders.ReadState.TheVariants as state
+use Rattle.play_primaries.specs.PlayReaders.Clients.{StateShows, ReadClientShows, ReadIsReady}
+use Rattle.play_primaries.specs.PlayReaders.Staying.{KeepsReadClient, ReadClientsStay}
 use Rattle.play_nodes.proofs.PlaceLaws.{same_some}
-use Rattle.play_readers.specs.Asks.{asks_of}
+use Rattle.play_primaries.specs.PlayReaders.Asks.{asks_of}
 use Rattle.play_nodes.specs.Numbers.{IsNumbered}
 use Rattle.play_reads.specs.Places.{ReadersAscend, HasClient}
 use Rattle.play_nodes.specs.declared.nodes.Nodes.{Nodes}

@@ -12,15 +12,15 @@ use Rattle.world.specs.Enabled.{takes_down, acts_below, takes_above, can_up}
 use Rattle.world.specs.Parts as parts
 use Rattle.world.specs.Parts.{by_writer, by_member, by_reader, by_primary, Reader, no_reader, reads, has_read, Lower, idle, writes, serves, recovers, ended_below}
 use Rattle.world.specs.Worlds.{World}
-use Rattle.world_orders.specs.Orders.{purpose_of, reading}
-use Rattle.play_model.specs.Dues.{is_open, is_open_above}
+use Rattle.play_nodes.specs.WorldOrders.Orders.{purpose_of, reading}
+use Rattle.play_nodes.specs.PlayModel.Dues.{is_open, is_open_above}
 use Rattle.play_nodes.specs.declared.connections.Connection.{Connection}
 use Rattle.play_nodes.specs.declared.connections.Upper.{Upper}
 use Rattle.play_nodes.specs.declared.connections.Upper.TheVariants as upper
 use Rattle.play_nodes.specs.declared.nodes.Nodes.{Nodes}
 use Rattle.play_nodes.specs.Showing.{UpperShows}
-use Rattle.play_readers.specs.declared.clients.ReadClient.{ReadClient}
-use Rattle.play_readers.specs.Dues as readers
+use Rattle.play_primaries.specs.PlayReaders.ReadClient.{ReadClient}
+use Rattle.play_primaries.specs.PlayReaders.Dues as readers
 use Rattle.play_servers.specs.declared.servers.ReadEnd.{ReadEnd}
 use Rattle.play_servers.specs.declared.servers.ReadEnd.TheVariants as read_end
 use Rattle.play_servers.specs.declared.servers.ReadServer.{ReadServer}

@@ -16,14 +16,14 @@ use Rattle.road_traffic.specs.Laws.{BringsShow}
 use Rattle.road_traffic.specs.Showing.{Net, RoadsShow, flushed_net}
 use Rattle.world.specs.Nodes.{node_of}
 use Rattle.world.specs.Worlds.{World}
-use Rattle.world_nets.specs.Dials.{NetsStaySane}
-use Rattle.world_nets.specs.Ends.{IsElsewhere, EndsElsewhereStay}
-use Rattle.world_nets.specs.Nets.{IsEndOf, held_by, is_over}
-use Rattle.world_nets.specs.Steps.{IdleFlushesAreNets}
-use Rattle.world_orders.specs.Orders.{Ordered, purpose_of, reading}
-use Rattle.member_events.specs.Roads.{RoadsPass}
-use Rattle.member_events.specs.Showing.{ShowsWorld}
-use Rattle.member_events.proofs.SetupKnown.{pass_same, pass_on}
+use Rattle.play_servers.specs.WorldNets.Dials.{NetsStaySane}
+use Rattle.play_servers.specs.WorldNets.Ends.{IsElsewhere, EndsElsewhereStay}
+use Rattle.play_servers.specs.WorldNets.Nets.{IsEndOf, held_by, is_over}
+use Rattle.play_servers.specs.WorldNets.Steps.{IdleFlushesAreNets}
+use Rattle.play_nodes.specs.WorldOrders.Orders.{Ordered, purpose_of, reading}
+use Rattle.play_nodes.specs.MemberEvents.Roads.{RoadsPass}
+use Rattle.play_nodes.specs.MemberEvents.Showing.{ShowsWorld}
+use Rattle.play_nodes.proofs.MemberEvents.SetupKnown.{pass_same, pass_on}
 use Rattle.play_nodes.specs.declared.nodes.Nodes.{Nodes}
 use Rattle.play_nodes.specs.Elsewhere.{NodesFollow}
 use Rattle.play_nodes.specs.Showing.{NodesShow}

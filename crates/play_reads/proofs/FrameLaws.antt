@@ -7,16 +7,16 @@ use Rattle.world.specs.declared.events.Event.TheVariants as event
 use Rattle.world.specs.Events.{happens, run}
 use Rattle.world.specs.Parts.{Upper, by_writer, by_member, by_reader, by_primary}
 use Rattle.world.specs.Worlds.{World}
-use Rattle.world_cuts.specs.Cutting.{cut_world, IsCut, CutsAreLosses, EndsStayInCuts}
-use Rattle.world_cuts.proofs.CutLemmas.{over_cut}
-use Rattle.world_nets.specs.Ends.{IsElsewhere}
-use Rattle.world_orders.specs.Orders.{Ordered, IsWriterConn, purpose_of, reading}
-use Rattle.client_events.specs.Showing.{OthersStay}
-use Rattle.play_model.specs.declared.dues.Due.TheVariants as due
-use Rattle.play_model.specs.Dues.{due_events}
+use Rattle.play_primaries.specs.WorldCuts.Cutting.{cut_world, IsCut, CutsAreLosses, EndsStayInCuts}
+use Rattle.play_primaries.proofs.WorldCuts.CutLemmas.{over_cut}
+use Rattle.play_servers.specs.WorldNets.Ends.{IsElsewhere}
+use Rattle.play_nodes.specs.WorldOrders.Orders.{Ordered, IsWriterConn, purpose_of, reading}
+use Rattle.play_primaries.specs.ClientEvents.Showing.{OthersStay}
+use Rattle.play_nodes.specs.PlayModel.Due.TheVariants as due
+use Rattle.play_nodes.specs.PlayModel.Dues.{due_events}
 use Rattle.play_nodes.specs.Elsewhere.{KeepsElsewhere, DownLeaves, ReadyLeaves, MirrorLeaves, OwnLeaves, HeardLeaves}
 use Rattle.play_nodes.specs.Showing.{is_pipeline, ElsewhereStays}
-use Rattle.play_readers.specs.Frames.{OwnStepsKeepReaders, HearingKeepsReaders, DownKeepsReaders, ReadyKeepsReaders, MirrorKeepsReaders}
+use Rattle.play_primaries.specs.PlayReaders.Frames.{OwnStepsKeepReaders, HearingKeepsReaders, DownKeepsReaders, ReadyKeepsReaders, MirrorKeepsReaders}
 use Rattle.play_reads.specs.Keeping.{KeepsServers, ReadingEndsStay, OwnStepsKeepReads, HearingKeepsReads, DownKeepsReads, ReadyKeepsReads, MirrorKeepsReads, CutsKeepReads}
 use Rattle.play_reads.proofs.ClientLaws.{no_writer_reads}
 use Rattle.play_reads.proofs.KeepLaws.{none_between}

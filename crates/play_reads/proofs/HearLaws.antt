@@ -11,28 +11,28 @@ use Rattle.world.specs.Enabled.{can_up, takes_above, reads_from}
 use Rattle.world.specs.Events.{happens}
 use Rattle.world.specs.Parts.{Upper, by_reader, Reader, no_reader}
 use Rattle.world.specs.Worlds.{World}
-use Rattle.world_laws.proofs.FactTables.{and-right}
-use Rattle.world_nets.specs.Ends.{IsElsewhere}
-use Rattle.world_orders.specs.Orders.{Ordered, purpose_of, reading}
-use Rattle.client_events.specs.Showing.{OthersStay}
-use Rattle.play_model.specs.declared.dues.Due.TheVariants as due
-use Rattle.play_model.specs.Dues.{Queues, is_due, is_open_above}
-use Rattle.reader_events.specs.declared.faults.ReaderFault.{ReaderFault}
-use Rattle.reader_events.specs.declared.faults.ReaderFault.TheVariants as reader_fault
-use Rattle.reader_events.specs.Faults as reader
+use Rattle.play_nodes.proofs.WorldLaws.FactTables.{and-right}
+use Rattle.play_servers.specs.WorldNets.Ends.{IsElsewhere}
+use Rattle.play_nodes.specs.WorldOrders.Orders.{Ordered, purpose_of, reading}
+use Rattle.play_primaries.specs.ClientEvents.Showing.{OthersStay}
+use Rattle.play_nodes.specs.PlayModel.Due.TheVariants as due
+use Rattle.play_nodes.specs.PlayModel.Dues.{Queues, is_due, is_open_above}
+use Rattle.play_primaries.specs.ReaderEvents.ReaderFault.{ReaderFault}
+use Rattle.play_primaries.specs.ReaderEvents.ReaderFault.TheVariants as reader_fault
+use Rattle.play_primaries.specs.ReaderEvents.Faults as reader
 use Rattle.play_nodes.specs.declared.nodes.Nodes.{Nodes}
 use Rattle.play_nodes.specs.Frames.{KeepsNodes, EndsStay, NodesStay}
 use Rattle.play_nodes.specs.Showing.{NodesShow}
-use Rattle.play_readers.specs.declared.clients.ReadClient.{ReadClient}
-use Rattle.play_readers.specs.Clients.{ReadClientStands}
-use Rattle.play_readers.specs.Frames as readers
-use Rattle.play_readers.specs.Hearing as hearing
-use Rattle.play_readers.specs.Staying.{ReadClientsStay}
+use Rattle.play_primaries.specs.PlayReaders.ReadClient.{ReadClient}
+use Rattle.play_primaries.specs.PlayReaders.Clients.{ReadClientStands}
+use Rattle.play_primaries.specs.PlayReaders.Frames as readers
+use Rattle.play_primaries.specs.PlayReaders.Hearing as hearing
+use Rattle.play_primaries.specs.PlayReaders.Staying.{ReadClientsStay}
 use Rattle.play_reads.specs.declared.reads.Reads.{Reads}
 use Rattle.play_reads.specs.Faults.{of_reader, IsCaused}
 use Rattle.play_reads.specs.Keeping.{KeepsServers}
 use Rattle.play_reads.specs.Left.{ReadsLeft}
-use Rattle.play_readers.specs.Asks.{asks_of}
+use Rattle.play_primaries.specs.PlayReaders.Asks.{asks_of}
 use Rattle.play_reads.specs.Places.{HasClient}
 use Rattle.play_reads.specs.Showing.{ClientsShow, ServersShow, ReadsStand}
 use Rattle.play_servers.specs.declared.servers.ReadServer.{ReadServer}

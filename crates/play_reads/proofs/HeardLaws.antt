@@ -11,16 +11,16 @@ use Rattle.world.specs.Connections.{next_up}
 use Rattle.world.specs.Enabled.{takes_above}
 use Rattle.world.specs.Parts.{by_reader}
 use Rattle.world.specs.Worlds.{World}
-use Rattle.world_laws.proofs.FactTables.{and-left}
-use Rattle.play_model.specs.declared.dues.Due.TheVariants as due
-use Rattle.play_model.specs.Dues.{Queues, is_due}
-use Rattle.reader_events.specs.declared.faults.ReaderFault.{ReaderFault}
+use Rattle.play_nodes.proofs.WorldLaws.FactTables.{and-left}
+use Rattle.play_nodes.specs.PlayModel.Due.TheVariants as due
+use Rattle.play_nodes.specs.PlayModel.Dues.{Queues, is_due}
+use Rattle.play_primaries.specs.ReaderEvents.ReaderFault.{ReaderFault}
 use Rattle.play_nodes.specs.declared.nodes.Nodes.{Nodes}
 use Rattle.play_nodes.specs.Frames.{NodesStay}
-use Rattle.play_readers.specs.declared.clients.ReadClient.{ReadClient}
-use Rattle.play_readers.specs.Frames as readers
-use Rattle.play_readers.specs.Hearing as hearing
-use Rattle.play_readers.specs.Staying.{ReadClientsStay}
+use Rattle.play_primaries.specs.PlayReaders.ReadClient.{ReadClient}
+use Rattle.play_primaries.specs.PlayReaders.Frames as readers
+use Rattle.play_primaries.specs.PlayReaders.Hearing as hearing
+use Rattle.play_primaries.specs.PlayReaders.Staying.{ReadClientsStay}
 use Rattle.play_nodes.proofs.PlaceLaws.{same_some}
 use Rattle.play_reads.specs.declared.reads.Reads.{Reads}
 use Rattle.play_reads.specs.Dues.{IsClientOf, TellsClient}

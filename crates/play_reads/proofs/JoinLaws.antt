@@ -4,19 +4,19 @@ use Rattle.hd_base.specs.declared.links.LinkIn as link_in
 use Rattle.hd_base.specs.declared.links.LinkOut as link_out
 use Rattle.road_traffic.specs.Showing.{Net}
 use Rattle.world.specs.Worlds.{World}
-use Rattle.play_model.specs.declared.asks.ReadAsk.{ReadAsk}
-use Rattle.play_readers.specs.declared.clients.ReadClient.{ReadClient}
-use Rattle.play_readers.specs.Clients.{ReadClientShows}
+use Rattle.play_nodes.specs.PlayModel.ReadAsk.{ReadAsk}
+use Rattle.play_primaries.specs.PlayReaders.ReadClient.{ReadClient}
+use Rattle.play_primaries.specs.PlayReaders.Clients.{ReadClientShows}
 use Rattle.play_servers.specs.declared.servers.ReadServer.{ReadServer}
 use Rattle.play_reads.specs.declared.reads.Reads.{Reads}
 use Rattle.play_reads.specs.Joining.{NoneShow, made_client, HasJoined}
-use Rattle.play_readers.specs.Asks.{asks_of}
+use Rattle.play_primaries.specs.PlayReaders.Asks.{asks_of}
 use Rattle.play_reads.specs.Places.{ReadersBelow, HasClient}
 use Rattle.play_reads.specs.Showing.{ClientsShow, ServersShow}
 use Rattle.play_reads.proofs.DueLaws.{none_begun}
 use Rattle.play_nodes.proofs.Numbers.{PutOr, put_or, ascend_put}
 use Rattle.play_reads.proofs.OwnLaws.{front}
-use Rattle.world_orders.specs.Orders.{purpose_of}
+use Rattle.play_nodes.specs.WorldOrders.Orders.{purpose_of}
 
 none_at : {A : Type 0} (k : ℕ) (a : A) → slice_get [] k ≡ Some a → ⊥
 none_at k a e = cc

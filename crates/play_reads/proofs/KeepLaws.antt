@@ -6,16 +6,16 @@ use Rattle.hd_base.specs.declared.ends.Conn.{Conn}
 use Rattle.hd_base.specs.declared.links.LinkIn as link_in
 use Rattle.hd_base.specs.declared.links.LinkOut as link_out
 use Rattle.hd_base.specs.declared.numbers.BlockId.{BlockId}
-use Rattle.read_core.specs.Readings.{ReadingState}
+use Rattle.world.specs.ReadCore.Readings.{ReadingState}
 use Rattle.road_traffic.specs.Showing.{Net}
 use Rattle.world.specs.Connections.{is_served}
 use Rattle.world.specs.Parts.{Dialled, by_reader, Lower, idle, serves, ended_below, Reader, reads}
 use Rattle.world.specs.Worlds.{World}
-use Rattle.world_nets.specs.Nets.{IsEndOf}
-use Rattle.world_orders.specs.Orders.{Ordered, ReaderIs, purpose_of, reading}
-use Rattle.play_readers.specs.declared.clients.ReadClient.{ReadClient}
-use Rattle.play_readers.specs.Frames.{KeepsReaders}
-use Rattle.play_readers.specs.Staying.{KeepsReadClient, ReadClientsStay}
+use Rattle.play_servers.specs.WorldNets.Nets.{IsEndOf}
+use Rattle.play_nodes.specs.WorldOrders.Orders.{Ordered, ReaderIs, purpose_of, reading}
+use Rattle.play_primaries.specs.PlayReaders.ReadClient.{ReadClient}
+use Rattle.play_primaries.specs.PlayReaders.Frames.{KeepsReaders}
+use Rattle.play_primaries.specs.PlayReaders.Staying.{KeepsReadClient, ReadClientsStay}
 use Rattle.play_servers.specs.declared.servers.ReadEnd.{ReadEnd}
 use Rattle.play_servers.specs.declared.servers.ReadEnd.TheVariants as read_end
 use Rattle.play_servers.specs.declared.servers.ReadServer.{ReadServer}

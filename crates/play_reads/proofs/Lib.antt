@@ -16,3 +16,8 @@ pub mod StartLaws
 pub mod StopLaws
 pub mod ThereLaws
 pub mod PrimaryLaws
+pub mod PlayNodes
+pub mod PlayPrimaries
+pub mod PlayReaders
+pub mod WorldNets
+pub mod WorldSettling

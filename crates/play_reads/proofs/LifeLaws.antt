@@ -11,8 +11,8 @@ use Rattle.world.specs.Events.{happens, outcome, after_event, where_so, stop}
 use Rattle.world.specs.Parts.{Dialled, Marks}
 use Rattle.world.specs.Restarts.{restart}
 use Rattle.world.specs.Worlds.{World, put}
-use Rattle.world_nets.specs.Nets.{is_over}
-use Rattle.world_stops.proofs.StopLemmas.{stop_is}
+use Rattle.play_servers.specs.WorldNets.Nets.{is_over}
+use Rattle.play_primaries.proofs.WorldStops.StopLemmas.{stop_is}
 use Rattle.play_reads.specs.Keeping.{MayStart}
 use Rattle.play_reads.proofs.KeepLaws.{test_so}
 

@@ -10,11 +10,11 @@ use Rattle.world.specs.Connections.{is_served}
 use Rattle.world.specs.Enabled.{reads_from}
 use Rattle.world.specs.Parts.{Upper, by_writer, by_member, by_reader, by_primary, Reader, no_reader, reads, has_read, Lower, idle, serves, ended_below}
 use Rattle.world.specs.Worlds.{World}
-use Rattle.play_model.specs.Dues.{is_open}
+use Rattle.play_nodes.specs.PlayModel.Dues.{is_open}
 use Rattle.play_nodes.specs.declared.nodes.Nodes.{Nodes}
 use Rattle.play_nodes.proofs.PlaceLaws.{same_some}
-use Rattle.play_readers.specs.declared.clients.ReadClient.{ReadClient}
-use Rattle.play_readers.specs.Dues.{TellsConn, conn_read}
+use Rattle.play_primaries.specs.PlayReaders.ReadClient.{ReadClient}
+use Rattle.play_primaries.specs.PlayReaders.Dues.{TellsConn, conn_read}
 use Rattle.play_servers.specs.declared.servers.ReadEnd.{ReadEnd}
 use Rattle.play_servers.specs.declared.servers.ReadEnd.TheVariants as read_end
 use Rattle.play_servers.specs.declared.servers.ReadServer.{ReadServer}

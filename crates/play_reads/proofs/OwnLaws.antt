@@ -12,21 +12,21 @@ use Rattle.world.specs.Connections.{is_served}
 use Rattle.world.specs.Events.{happens}
 use Rattle.world.specs.Parts.{Dialled, by_reader, Lower, idle}
 use Rattle.world.specs.Worlds.{World}
-use Rattle.world_nets.specs.Nets.{IsEndOf}
-use Rattle.world_orders.specs.Orders.{Ordered, purpose_of, reading}
-use Rattle.client_events.specs.Showing.{OthersStay}
-use Rattle.play_model.specs.declared.asks.ReadAsk.{ReadAsk}
-use Rattle.play_model.specs.Asks.{asking_node, request_of}
-use Rattle.reader_events.specs.Asking.{CanAsk}
-use Rattle.reader_events.specs.declared.faults.ReaderFault.{ReaderFault}
+use Rattle.play_servers.specs.WorldNets.Nets.{IsEndOf}
+use Rattle.play_nodes.specs.WorldOrders.Orders.{Ordered, purpose_of, reading}
+use Rattle.play_primaries.specs.ClientEvents.Showing.{OthersStay}
+use Rattle.play_nodes.specs.PlayModel.ReadAsk.{ReadAsk}
+use Rattle.play_nodes.specs.PlayModel.Asks.{asking_node, request_of}
+use Rattle.play_primaries.specs.ReaderEvents.Asking.{CanAsk}
+use Rattle.play_primaries.specs.ReaderEvents.ReaderFault.{ReaderFault}
 use Rattle.play_nodes.specs.declared.nodes.Nodes.{Nodes}
 use Rattle.play_nodes.specs.Frames.{IsKept, NodesStay}
 use Rattle.play_nodes.specs.Showing.{NodesShow}
 use Rattle.play_nodes.proofs.PlaceLaws.{same_some}
-use Rattle.play_readers.specs.declared.clients.ReadClient.{ReadClient}
-use Rattle.play_readers.specs.Frames as readers
-use Rattle.play_readers.specs.Owning as owning
-use Rattle.play_readers.specs.Staying.{ReadClientsStay}
+use Rattle.play_primaries.specs.PlayReaders.ReadClient.{ReadClient}
+use Rattle.play_primaries.specs.PlayReaders.Frames as readers
+use Rattle.play_primaries.specs.PlayReaders.Owning as owning
+use Rattle.play_primaries.specs.PlayReaders.Staying.{ReadClientsStay}
 use Rattle.play_servers.specs.declared.servers.ReadServer.{ReadServer}
 use Rattle.play_servers.specs.declared.servers.ReadEnd.TheVariants as read_end
 use Rattle.play_servers.specs.Showing.{EndShows, ServerShows}
@@ -37,7 +37,7 @@ use Rattle.play_reads.specs.Faults.{of_reader, IsCaused}
 use Rattle.play_reads.specs.Keeping.{KeepsServed}
 use Rattle.play_reads.specs.Left.{ReadsLeft}
 use Rattle.play_reads.specs.Owning.{made_server, IsReached, Reaches, OwnIsLawful, OwnShows}
-use Rattle.play_readers.specs.Asks.{asks_of}
+use Rattle.play_primaries.specs.PlayReaders.Asks.{asks_of}
 use Rattle.play_reads.specs.Places.{HasServer, HasClient}
 use Rattle.play_reads.specs.Showing.{DialledHaveClients, ClientsShow, IsServer, ServersShow, ReadsStand}
 use Rattle.play_reads.proofs.ClientLaws.{ActsAlone, clients_after, asks_set, has_client_set, reader_same}

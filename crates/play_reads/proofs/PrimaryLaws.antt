@@ -7,10 +7,10 @@ use Rattle.world.specs.declared.events.Event.TheVariants as event
 use Rattle.world.specs.Events.{happens, run}
 use Rattle.world.specs.Parts.{Upper, by_writer, by_member, by_reader, by_primary, Primary, no_primary, was_told, leads, has_led}
 use Rattle.world.specs.Worlds.{World}
-use Rattle.world_orders.specs.Orders.{purpose_of, recovering}
-use Rattle.play_model.specs.declared.recoveries.Recovery.{Recovery}
-use Rattle.play_model.specs.Recoveries.{all_answered, primary_events}
-use Rattle.play_readers.specs.Frames.{KeepsReaders, DownKeepsReaders, TakesNothing}
+use Rattle.play_nodes.specs.WorldOrders.Orders.{purpose_of, recovering}
+use Rattle.play_nodes.specs.PlayModel.Recovery.{Recovery}
+use Rattle.play_nodes.specs.PlayModel.Recoveries.{all_answered, primary_events}
+use Rattle.play_primaries.specs.PlayReaders.Frames.{KeepsReaders, DownKeepsReaders, TakesNothing}
 use Rattle.play_primaries.specs.Frames.{KeepsOthers, OwnStepsKeepOthers, HearingKeepsOthers, OwnKeepsNodes, OwnStepsKeepNodes, HearingKeepsNodes}
 use Rattle.play_primaries.specs.Owning.{own_events, step_events}
 use Rattle.play_reads.specs.Keeping.{KeepsServers, LeadingKeepsReads, AnswersKeepReads, AnsweringKeepsReads}

@@ -11,7 +11,7 @@ use Rattle.hd_base.specs.declared.roads.Roads as roads
 use Rattle.op_headers.specs.declared.ops.Op.{Op}
 use Rattle.op_headers.specs.declared.ops.Op.TheVariants as op
 use Rattle.op_headers.specs.declared.ops.ReadOp.{ReadOp}
-use Rattle.replica_files.specs.declared.book_state.BookState.{BookState}
+use Rattle.play_primaries.specs.ReplicaFiles.BookState.{BookState}
 use Rattle.road_traffic.specs.Showing.{Net, RoadsShow}
 use Rattle.world.specs.declared.events.Event.TheVariants as event
 use Rattle.world.specs.Connections.{is_alive, is_served, next_down}
@@ -20,13 +20,13 @@ use Rattle.world.specs.Events.{happens}
 use Rattle.world.specs.Nodes.{node_of}
 use Rattle.world.specs.Parts.{Message, request, packet, ack, response, read_status, recovery_answer, Lower, idle, serves, ended_below}
 use Rattle.world.specs.Worlds.{World}
-use Rattle.world_laws.proofs.FactTables.{and-left, and-right}
-use Rattle.world_laws.specs.Placing.{Placed}
-use Rattle.world_orders.specs.Orders.{Ordered, Purpose, comes_down, is_read, purpose_of, reading}
-use Rattle.play_model.specs.declared.dues.Due.TheVariants as due
-use Rattle.play_model.specs.Dues.{Queues, is_open, is_due}
-use Rattle.serving_events.specs.declared.faults.ServeFault.{ServeFault}
-use Rattle.serving_events.specs.declared.faults.ServeFault.TheVariants as serve_fault
+use Rattle.play_nodes.proofs.WorldLaws.FactTables.{and-left, and-right}
+use Rattle.play_nodes.specs.WorldLaws.Placing.{Placed}
+use Rattle.play_nodes.specs.WorldOrders.Orders.{Ordered, Purpose, comes_down, is_read, purpose_of, reading}
+use Rattle.play_nodes.specs.PlayModel.Due.TheVariants as due
+use Rattle.play_nodes.specs.PlayModel.Dues.{Queues, is_open, is_due}
+use Rattle.play_servers.specs.ServingEvents.ServeFault.{ServeFault}
+use Rattle.play_servers.specs.ServingEvents.ServeFault.TheVariants as serve_fault
 use Rattle.play_nodes.specs.declared.nodes.NodeBooks.{NodeBooks}
 use Rattle.play_nodes.specs.declared.nodes.Nodes.{Nodes}
 use Rattle.play_nodes.specs.Elsewhere.{NodesFollow, UpperEndsStay}
@@ -35,8 +35,8 @@ use Rattle.play_nodes.specs.Showing.{NodesShow}
 use Rattle.play_nodes.proofs.MemberNodes.{known}
 use Rattle.play_nodes.proofs.PlaceLaws.{book_missing, same_some}
 use Rattle.play_nodes.proofs.Tables.{element}
-use Rattle.play_readers.specs.Frames.{DownKeepsReaders, ReadyKeepsReaders}
-use Rattle.play_readers.specs.Staying.{ReadClientsStay}
+use Rattle.play_primaries.specs.PlayReaders.Frames.{DownKeepsReaders, ReadyKeepsReaders}
+use Rattle.play_primaries.specs.PlayReaders.Staying.{ReadClientsStay}
 use Rattle.play_servers.specs.declared.servers.ReadEnd.{ReadEnd}
 use Rattle.play_servers.specs.declared.servers.ReadEnd.TheVariants as read_end
 use Rattle.play_servers.specs.declared.servers.ReadServer.{ReadServer}

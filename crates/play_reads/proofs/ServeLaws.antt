@@ -12,11 +12,11 @@ use Rattle.road_traffic.specs.Showing.{Net}
 use Rattle.world.specs.Nodes.{node_of}
 use Rattle.world.specs.Parts.{Dialled}
 use Rattle.world.specs.Worlds.{World}
-use Rattle.world_laws.specs.Placing.{Placed}
-use Rattle.world_nets.specs.Ends.{IsElsewhere}
-use Rattle.world_nets.specs.Nets.{is_over}
-use Rattle.world_orders.specs.Orders.{Ordered, purpose_of, reading}
-use Rattle.member_events.specs.Showing.{IsNoneOf}
+use Rattle.play_nodes.specs.WorldLaws.Placing.{Placed}
+use Rattle.play_servers.specs.WorldNets.Ends.{IsElsewhere}
+use Rattle.play_servers.specs.WorldNets.Nets.{is_over}
+use Rattle.play_nodes.specs.WorldOrders.Orders.{Ordered, purpose_of, reading}
+use Rattle.play_nodes.specs.MemberEvents.Showing.{IsNoneOf}
 use Rattle.play_nodes.specs.declared.nodes.NodeBooks.{NodeBooks}
 use Rattle.play_nodes.specs.declared.nodes.Nodes.{Nodes}
 use Rattle.play_nodes.specs.Elsewhere.{NodeShows, NodesFollow}
@@ -25,15 +25,15 @@ use Rattle.play_nodes.specs.Places.{book_at}
 use Rattle.play_nodes.specs.Showing.{NodesShow}
 use Rattle.play_nodes.proofs.PlaceLaws.{book_found, same_some}
 use Rattle.play_nodes.proofs.Tables.{SetOr, set_or, set_here, set_there, same_or}
-use Rattle.play_readers.specs.Frames.{KeepsReaders}
-use Rattle.play_readers.specs.Staying.{ReadClientsStay}
+use Rattle.play_primaries.specs.PlayReaders.Frames.{KeepsReaders}
+use Rattle.play_primaries.specs.PlayReaders.Staying.{ReadClientsStay}
 use Rattle.play_servers.specs.declared.servers.ReadServer.{ReadServer}
 use Rattle.play_servers.specs.Events as servers
 use Rattle.play_servers.specs.Showing as showing
 use Rattle.play_reads.specs.declared.reads.Reads.{Reads}
 use Rattle.play_reads.specs.Keeping.{KeepsServed}
 use Rattle.play_reads.specs.Left.{ReadsLeft}
-use Rattle.play_readers.specs.Asks.{asks_of}
+use Rattle.play_primaries.specs.PlayReaders.Asks.{asks_of}
 use Rattle.play_nodes.specs.Numbers.{IsNumbered}
 use Rattle.play_reads.specs.Places.{ConnsAscend, HasServer, HasClient}
 use Rattle.play_reads.specs.Showing.{ClientsShow, IsServer, ServersShow, ReadsStand}

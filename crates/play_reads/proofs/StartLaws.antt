@@ -6,10 +6,10 @@ use Rattle.hd_base.specs.declared.numbers.BlockId.{BlockId}
 use Rattle.road_traffic.specs.Showing.{Net}
 use Rattle.world.specs.Parts.{Dialled}
 use Rattle.world.specs.Worlds.{World}
-use Rattle.world_orders.specs.Orders.{purpose_of}
+use Rattle.play_nodes.specs.WorldOrders.Orders.{purpose_of}
 use Rattle.play_nodes.specs.Showing.{ElsewhereStays}
-use Rattle.play_readers.specs.Frames.{KeepsReaders}
-use Rattle.play_readers.specs.Staying.{ReadClientsStay}
+use Rattle.play_primaries.specs.PlayReaders.Frames.{KeepsReaders}
+use Rattle.play_primaries.specs.PlayReaders.Staying.{ReadClientsStay}
 use Rattle.play_reads.specs.Keeping.{StartsKeepReads}
 use Rattle.play_reads.specs.Showing.{ServersShow}
 use Rattle.play_servers.specs.declared.servers.ReadServer.{ReadServer}

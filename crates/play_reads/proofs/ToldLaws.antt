@@ -5,10 +5,10 @@ use Rattle.hd_base.specs.declared.links.LinkOut as link_out
 use Rattle.hd_base.specs.declared.numbers.ConnId.{ConnId}
 use Rattle.hd_base.specs.declared.roads.Roads as roads
 use Rattle.world.specs.Enabled.{can_down, can_ready}
-use Rattle.play_model.specs.declared.dues.Due.TheVariants as due
-use Rattle.play_model.specs.Dues.{is_due}
-use Rattle.play_readers.specs.declared.clients.ReadClient.{ReadClient}
-use Rattle.play_readers.specs.Dues as readers
+use Rattle.play_nodes.specs.PlayModel.Due.TheVariants as due
+use Rattle.play_nodes.specs.PlayModel.Dues.{is_due}
+use Rattle.play_primaries.specs.PlayReaders.ReadClient.{ReadClient}
+use Rattle.play_primaries.specs.PlayReaders.Dues as readers
 use Rattle.play_servers.specs.declared.servers.ReadServer.{ReadServer}
 use Rattle.play_servers.specs.Dues as servers
 use Rattle.play_servers.specs.Showing.{ServerShows}

@@ -10,15 +10,15 @@ use Rattle.world.specs.Enabled.{reads_from}
 use Rattle.world.specs.Parts as parts
 use Rattle.world.specs.Parts.{by_reader, no_reader}
 use Rattle.world.specs.Worlds.{World}
-use Rattle.world_orders.specs.Open.{OpenEnds}
-use Rattle.world_orders.specs.Orders.{purpose_of, reading}
-use Rattle.member_events.specs.Showing.{ShowsWorld}
-use Rattle.reader_events.specs.Orders.{ReadersTakeInOrder}
-use Rattle.play_model.specs.declared.dues.Due.TheVariants as due
-use Rattle.play_model.specs.Dues.{Queues, is_due}
+use Rattle.play_nodes.specs.WorldOrders.Open.{OpenEnds}
+use Rattle.play_nodes.specs.WorldOrders.Orders.{purpose_of, reading}
+use Rattle.play_nodes.specs.MemberEvents.Showing.{ShowsWorld}
+use Rattle.play_primaries.specs.ReaderEvents.Orders.{ReadersTakeInOrder}
+use Rattle.play_nodes.specs.PlayModel.Due.TheVariants as due
+use Rattle.play_nodes.specs.PlayModel.Dues.{Queues, is_due}
 use Rattle.play_nodes.specs.declared.nodes.Nodes.{Nodes}
 use Rattle.play_nodes.specs.Showing.{has_events, NodesShow}
-use Rattle.play_readers.specs.declared.clients.ReadClient.{ReadClient}
+use Rattle.play_primaries.specs.PlayReaders.ReadClient.{ReadClient}
 use Rattle.play_reads.specs.declared.reads.Reads.{Reads}
 use Rattle.play_reads.specs.Showing.{ReadsShow, OnRoads, ReadsStand}
 

@@ -4,11 +4,11 @@ use Rattle.hd_base.specs.Faults.{FaultsIncreased}
 use Rattle.hd_base.specs.declared.files.Files as files
 use Rattle.hd_base.specs.declared.numbers.NodeId.{NodeId}
 use Rattle.hd_base.specs.declared.roads.Roads as roads
-use Rattle.replica_files.specs.declared.book_state.BookState.{BookState}
-use Rattle.reader_events.specs.declared.faults.ReaderFault.{ReaderFault}
-use Rattle.reader_events.specs.declared.faults.ReaderFault.TheVariants as reader_fault
-use Rattle.serving_events.specs.declared.faults.ServeFault.{ServeFault}
-use Rattle.serving_events.specs.declared.faults.ServeFault.TheVariants as serve_fault
+use Rattle.play_primaries.specs.ReplicaFiles.BookState.{BookState}
+use Rattle.play_primaries.specs.ReaderEvents.ReaderFault.{ReaderFault}
+use Rattle.play_primaries.specs.ReaderEvents.ReaderFault.TheVariants as reader_fault
+use Rattle.play_servers.specs.ServingEvents.ServeFault.{ServeFault}
+use Rattle.play_servers.specs.ServingEvents.ServeFault.TheVariants as serve_fault
 use Rattle.play_nodes.specs.declared.nodes.Nodes.{Nodes}
 use Rattle.play_nodes.specs.Events.{DrawerFailed}
 use Rattle.play_nodes.specs.Places.{book_at}

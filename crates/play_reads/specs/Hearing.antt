@@ -9,11 +9,11 @@ use Rattle.road_traffic.specs.Showing.{Net}
 use Rattle.world.specs.declared.events.Event.TheVariants as event
 use Rattle.world.specs.Events.{happens}
 use Rattle.world.specs.Worlds.{World}
-use Rattle.world_orders.specs.Orders.{Ordered, purpose_of, reading}
-use Rattle.world_texts.specs.Texts.{Written}
-use Rattle.play_model.specs.declared.dues.Due.TheVariants as due
-use Rattle.play_model.specs.Dues.{Queues, is_due}
-use Rattle.reader_events.specs.Orders.{ReadersTakeInOrder}
+use Rattle.play_nodes.specs.WorldOrders.Orders.{Ordered, purpose_of, reading}
+use Rattle.play_nodes.specs.WorldTexts.Texts.{Written}
+use Rattle.play_nodes.specs.PlayModel.Due.TheVariants as due
+use Rattle.play_nodes.specs.PlayModel.Dues.{Queues, is_due}
+use Rattle.play_primaries.specs.ReaderEvents.Orders.{ReadersTakeInOrder}
 use Rattle.play_nodes.specs.declared.nodes.Nodes.{Nodes}
 use Rattle.play_reads.specs.declared.faults.ReadsFault.{ReadsFault}
 use Rattle.play_reads.specs.declared.reads.Reads.{Reads}

@@ -7,12 +7,12 @@ use Rattle.hd_base.specs.declared.numbers.BlockId.{BlockId}
 use Rattle.road_traffic.specs.Showing.{Net}
 use Rattle.world.specs.Parts.{no_reader}
 use Rattle.world.specs.Worlds.{World}
-use Rattle.world_orders.specs.Orders.{purpose_of, reading}
-use Rattle.play_model.specs.declared.asks.ReadAsk.{ReadAsk}
-use Rattle.play_readers.specs.declared.clients.ReadClient.{ReadClient}
-use Rattle.play_readers.specs.declared.clients.ReadState.TheVariants as state
+use Rattle.play_nodes.specs.WorldOrders.Orders.{purpose_of, reading}
+use Rattle.play_nodes.specs.PlayModel.ReadAsk.{ReadAsk}
+use Rattle.play_primaries.specs.PlayReaders.ReadClient.{ReadClient}
+use Rattle.play_primaries.specs.PlayReaders.ReadState.TheVariants as state
 use Rattle.play_reads.specs.declared.reads.Reads.{Reads}
-use Rattle.play_readers.specs.Asks.{asks_of}
+use Rattle.play_primaries.specs.PlayReaders.Asks.{asks_of}
 use Rattle.play_reads.specs.Places.{ReadersBelow}
 use Rattle.play_reads.specs.Showing.{ReadsShow}
 

@@ -12,16 +12,16 @@ use Rattle.world.specs.declared.events.FoundReplica.{FoundReplica}
 use Rattle.world.specs.Events.{happens, run}
 use Rattle.world.specs.Parts.{by_writer, by_member}
 use Rattle.world.specs.Worlds.{World}
-use Rattle.world_cuts.specs.Cutting.{cut_net, cut_world}
-use Rattle.world_nets.specs.Nets.{IsEndOf}
-use Rattle.world_orders.specs.Orders.{Ordered, purpose_of, reading, recovering}
-use Rattle.client_events.specs.Showing.{OthersStay}
-use Rattle.play_model.specs.declared.dues.Due.TheVariants as due
-use Rattle.play_model.specs.declared.recoveries.Recovery.{Recovery}
-use Rattle.play_model.specs.Recoveries.{recovery_events}
-use Rattle.play_model.specs.Dues.{Queues, due_events}
+use Rattle.play_primaries.specs.WorldCuts.Cutting.{cut_net, cut_world}
+use Rattle.play_servers.specs.WorldNets.Nets.{IsEndOf}
+use Rattle.play_nodes.specs.WorldOrders.Orders.{Ordered, purpose_of, reading, recovering}
+use Rattle.play_primaries.specs.ClientEvents.Showing.{OthersStay}
+use Rattle.play_nodes.specs.PlayModel.Due.TheVariants as due
+use Rattle.play_nodes.specs.PlayModel.Recovery.{Recovery}
+use Rattle.play_nodes.specs.PlayModel.Recoveries.{recovery_events}
+use Rattle.play_nodes.specs.PlayModel.Dues.{Queues, due_events}
 use Rattle.play_nodes.specs.Showing.{is_pipeline, ElsewhereStays}
-use Rattle.play_readers.specs.Frames.{KeepsReaders}
+use Rattle.play_primaries.specs.PlayReaders.Frames.{KeepsReaders}
 use Rattle.play_reads.specs.declared.reads.Reads.{Reads}
 use Rattle.play_reads.specs.Showing.{ReadsShow}
 

@@ -10,3 +10,11 @@ pub mod Seats
 pub mod Serving
 pub mod Joining
 pub mod Stopping
+pub mod PlayNodes
+pub mod PlayPrimaries
+pub mod PlayReaders
+pub mod PlayServers
+pub mod ReaderEvents
+pub mod RecoveryEvents
+pub mod WorldNets
+pub mod WorldRecoveries

@@ -8,15 +8,15 @@ use Rattle.hd_base.specs.declared.roads.Roads as roads
 use Rattle.road_traffic.specs.Showing.{Net}
 use Rattle.world.specs.Events.{happens}
 use Rattle.world.specs.Worlds.{World}
-use Rattle.world_laws.specs.Placing.{Placed}
-use Rattle.world_orders.specs.Orders.{Ordered}
-use Rattle.play_model.specs.declared.asks.ReadAsk.{ReadAsk}
-use Rattle.play_model.specs.Asks.{asking_node}
-use Rattle.reader_events.specs.Asking.{CanAsk}
+use Rattle.play_nodes.specs.WorldLaws.Placing.{Placed}
+use Rattle.play_nodes.specs.WorldOrders.Orders.{Ordered}
+use Rattle.play_nodes.specs.PlayModel.ReadAsk.{ReadAsk}
+use Rattle.play_nodes.specs.PlayModel.Asks.{asking_node}
+use Rattle.play_primaries.specs.ReaderEvents.Asking.{CanAsk}
 use Rattle.play_nodes.specs.declared.connections.Upper.TheVariants as upper
 use Rattle.play_nodes.specs.declared.nodes.Nodes.{Nodes}
 use Rattle.play_nodes.specs.Elsewhere.{StandsBehind, ReadShows}
-use Rattle.play_readers.specs.declared.clients.ReadClient.{ReadClient}
+use Rattle.play_primaries.specs.PlayReaders.ReadClient.{ReadClient}
 use Rattle.play_servers.specs.declared.servers.ReadEnd.TheVariants as read_end
 use Rattle.play_servers.specs.declared.servers.ReadServer.{ReadServer}
 use Rattle.play_reads.specs.declared.faults.ReadsFault.{ReadsFault}

@@ -1,8 +1,8 @@
 -- Where clients and servers stand among those of a play.
 use Rattle.std.specs.Prelude.{◌≡◌, ◌<◌, ℕ, List, slice_get, Option, Some}
-use Rattle.play_model.specs.declared.asks.ReadAsk.{ReadAsk}
+use Rattle.play_nodes.specs.PlayModel.ReadAsk.{ReadAsk}
 use Rattle.play_nodes.specs.Numbers.{Ascend, IsPlaceOf}
-use Rattle.play_readers.specs.declared.clients.ReadClient.{ReadClient}
+use Rattle.play_primaries.specs.PlayReaders.ReadClient.{ReadClient}
 use Rattle.play_servers.specs.declared.servers.ReadServer.{ReadServer}
 
 -- CLIENTS

@@ -5,7 +5,7 @@ use Rattle.play_nodes.specs.declared.connections.Connection.{Connection}
 use Rattle.play_nodes.specs.declared.nodes.Nodes.{Nodes}
 use Rattle.play_servers.specs.declared.servers.ServerEvent.{ServerEvent}
 use Rattle.play_servers.specs.declared.servers.ServerEvent.TheVariants as server_event
-use Rattle.serving_events.specs.declared.faults.ServeFault.{ServeFault}
+use Rattle.play_servers.specs.ServingEvents.ServeFault.{ServeFault}
 use Rattle.play_reads.specs.declared.faults.ReadsFault.{ReadsFault}
 use Rattle.play_reads.specs.declared.faults.ReadsFault.TheVariants as fault
 use Rattle.play_reads.specs.declared.reads.Reads.{Reads}

@@ -7,12 +7,12 @@ use Rattle.hd_base.specs.declared.roads.Roads as roads
 use Rattle.road_traffic.specs.Showing.{Net}
 use Rattle.world.specs.Parts.{by_reader, no_reader}
 use Rattle.world.specs.Worlds.{World}
-use Rattle.world_orders.specs.Orders.{purpose_of, reading}
-use Rattle.member_events.specs.Showing.{ShowsWorld}
+use Rattle.play_nodes.specs.WorldOrders.Orders.{purpose_of, reading}
+use Rattle.play_nodes.specs.MemberEvents.Showing.{ShowsWorld}
 use Rattle.play_nodes.specs.declared.nodes.Nodes.{Nodes}
 use Rattle.play_nodes.specs.Showing.{NodesStand}
-use Rattle.play_readers.specs.declared.clients.ReadClient.{ReadClient}
-use Rattle.play_readers.specs.Clients.{ReadClientShows}
+use Rattle.play_primaries.specs.PlayReaders.ReadClient.{ReadClient}
+use Rattle.play_primaries.specs.PlayReaders.Clients.{ReadClientShows}
 use Rattle.play_servers.specs.declared.servers.ReadServer.{ReadServer}
 use Rattle.play_servers.specs.Showing.{ServerShows}
 use Rattle.play_reads.specs.declared.reads.Reads.{Reads}

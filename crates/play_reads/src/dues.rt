@@ -1,7 +1,7 @@
 //! Which events of the reads are due.
 
 ghost use Rattle.std.specs.Prelude.{◌<◌, IfSome, length};
-ghost use Rattle.member_events.specs.Roads.{RoadsPass};
+ghost use Rattle.play_nodes.specs.MemberEvents.Roads.{RoadsPass};
 ghost use Rattle.play_reads.specs.Dues.{
   TellsStep,
   TellsDown,

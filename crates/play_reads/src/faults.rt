@@ -4,8 +4,8 @@ ghost use Rattle.std.specs.Prelude.{◌≡◌};
 ghost use Rattle.play_reads.specs.Faults.{of_reader, of_server};
 
 use hd_base::NodeId;
-use reader_events::ReaderFault;
-use serving_events::ServeFault;
+use play_primaries::ReaderFault;
+use play_servers::ServeFault;
 use thiserror::Error;
 
 /// Why an event of the reads isn't done.

@@ -17,9 +17,10 @@ ghost use Rattle.play_reads.specs.Keeping.{
 
 use hd_base::{LinkIn, LinkOut};
 use play_nodes::{nodes_keep_elsewhere, writers_keep_elsewhere};
-use play_primaries::{primaries_keep_nodes, primaries_keep_others};
-use play_readers::{members_keep_readers, read_clients_stay, writers_keep_readers};
-use world_cuts::{cuts_are_losses, ends_stay_in_cuts};
+use play_primaries::{
+    cuts_are_losses, ends_stay_in_cuts, members_keep_readers, primaries_keep_nodes,
+    primaries_keep_others, read_clients_stay, writers_keep_readers,
+};
 
 /// Reads that show a world show the world after an event that keeps what they show.
 pub fn reads_stay<I: LinkIn, O: LinkOut>()

@@ -1,6 +1,6 @@
 //! What a reader hears on its connection.
 
-ghost use Rattle.member_events.specs.Roads.{RoadsPass};
+ghost use Rattle.play_nodes.specs.MemberEvents.Roads.{RoadsPass};
 ghost use Rattle.play_reads.specs.Hearing.{HearShows};
 ghost use Rattle.play_reads.specs.Showing.{Stand};
 
@@ -8,7 +8,7 @@ use crate::faults::{ReadsFault, of_reader};
 use crate::reads::Reads;
 use hd_base::{ConnId, Files, LinkIn, LinkOut, Roads};
 use play_nodes::{Nodes, nodes_stay};
-use play_readers::{read_clients_stay, readers_keep_nodes, readers_keep_others};
+use play_primaries::{read_clients_stay, readers_keep_nodes, readers_keep_others};
 use std::alloc::Global;
 
 impl<I: LinkIn, O: LinkOut> Reads<I, O> {

@@ -4,8 +4,8 @@ ghost use Rattle.play_reads.specs.Joining.{AreNone, NoneShow, Joins};
 
 use crate::reads::Reads;
 use hd_base::{LinkIn, LinkOut};
-use play_model::ReadAsk;
-use play_readers::ReadClient;
+use play_nodes::ReadAsk;
+use play_primaries::ReadClient;
 use std::alloc::{AllocError, Global};
 
 impl<I: LinkIn, O: LinkOut> Reads<I, O> {

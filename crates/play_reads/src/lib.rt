@@ -20,4 +20,10 @@ pub use frames::{
     cuts_keep_reads, members_keep_reads, primaries_keep_reads, reads_stay, starts_keep_reads,
     writers_keep_reads,
 };
+pub use play_nodes::{Lower, Nodes, Upper};
+pub use play_primaries::{
+    Deed, PrimaryClient, ReadClient, primaries_keep_nodes, primaries_keep_others,
+    readers_keep_others, readers_take_in_order,
+};
+pub use play_servers::{recoveries_come_in_order, recoveries_name_one_block};
 pub use reads::Reads;

@@ -1,7 +1,7 @@
 //! The own step of a reader.
 
 ghost use Rattle.std.specs.Prelude.{◌<◌, length};
-ghost use Rattle.member_events.specs.Roads.{RoadsPass};
+ghost use Rattle.play_nodes.specs.MemberEvents.Roads.{RoadsPass};
 ghost use Rattle.play_nodes.specs.Places.{KeepsSizes};
 ghost use Rattle.play_reads.specs.Owning.{OwnShows, Reaches, Serves};
 ghost use Rattle.play_reads.specs.Showing.{Stand};
@@ -9,9 +9,8 @@ ghost use Rattle.play_reads.specs.Showing.{Stand};
 use crate::faults::{ReadsFault, of_reader};
 use crate::reads::Reads;
 use hd_base::{Conn, Files, LinkIn, LinkOut, Roads};
-use play_model::ReadAsk;
-use play_nodes::{Nodes, nodes_stay};
-use play_readers::{read_clients_stay, readers_keep_nodes, readers_keep_others};
+use play_nodes::{Nodes, ReadAsk, nodes_stay};
+use play_primaries::{read_clients_stay, readers_keep_nodes, readers_keep_others};
 use play_servers::{ReadEnd, ReadServer};
 use std::alloc::Global;
 

@@ -3,7 +3,7 @@
 ghost use Rattle.play_reads.specs.Places.{IsClientPlace, IsServerPlace};
 
 use hd_base::{ConnId, LinkIn, LinkOut};
-use play_readers::ReadClient;
+use play_primaries::ReadClient;
 use play_servers::ReadServer;
 
 /// The place of the client of a reader, if it has one, among clients in the order of their readers' numbers.

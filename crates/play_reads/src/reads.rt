@@ -1,6 +1,6 @@
 //! The reads of a play.
 
-use play_readers::ReadClient;
+use play_primaries::ReadClient;
 use play_servers::ReadServer;
 
 /// The reads of a play: the reading clients of its lines, and the lower ends of the connections that they dialled.

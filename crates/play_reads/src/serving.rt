@@ -1,7 +1,7 @@
 //! The events of the lower ends of connections that readers dialled.
 
 ghost use Rattle.std.specs.Prelude.{◌≡◌};
-ghost use Rattle.member_events.specs.Roads.{RoadsPass};
+ghost use Rattle.play_nodes.specs.MemberEvents.Roads.{RoadsPass};
 ghost use Rattle.play_nodes.specs.Places.{KeepsSizes};
 ghost use Rattle.play_reads.specs.Seats.{IsSeat, followed};
 ghost use Rattle.play_reads.specs.Serving.{DownShows, ReadyShows};
@@ -12,9 +12,8 @@ use crate::places::server_of;
 use crate::reads::Reads;
 use hd_base::{ConnId, Files, LinkIn, LinkOut, NodeId, Roads};
 use play_nodes::{Nodes, nodes_follow, upper_ends_stay};
-use play_readers::{members_keep_readers, read_clients_stay};
-use play_servers::ServerEvent;
-use serving_events::ServeFault;
+use play_primaries::{members_keep_readers, read_clients_stay};
+use play_servers::{ServeFault, ServerEvent};
 use std::alloc::Global;
 
 /// Where the lower end of a connection stands, and its node.

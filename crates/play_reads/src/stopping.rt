@@ -2,19 +2,18 @@
 
 ghost use Rattle.std.specs.Prelude.{◌≡◌, ◌≤◌, ◌<◌, length, OnOk};
 ghost use Rattle.hd_base.specs.Ends.{KeepsConnections};
-ghost use Rattle.member_events.specs.Roads.{RoadsPass};
+ghost use Rattle.play_nodes.specs.MemberEvents.Roads.{RoadsPass};
 ghost use Rattle.play_servers.specs.Known.{EndIsKnown};
 ghost use Rattle.play_reads.specs.Stopping.{AreKnown, StopShows, EndsAt, Ends, took};
 
 use crate::reads::Reads;
 use hd_base::{ConnId, Files, LinkIn, LinkOut, NodeId, Roads};
 use play_nodes::{Nodes, nodes_follow};
-use play_readers::read_clients_stay;
-use play_servers::ReadEnd;
+use play_primaries::read_clients_stay;
+use play_servers::{ReadEnd, ends_elsewhere_stay, idle_flushes_are_nets, nets_stay_sane};
 use road_traffic::brings_show;
 use std::alloc::{AllocError, Global};
 use std::mem;
-use world_nets::{ends_elsewhere_stay, idle_flushes_are_nets, nets_stay_sane};
 
 impl<I: LinkIn, O: LinkOut> Reads<I, O> {
     /// Once a node has stopped, the lower ends of the connections that it took from readers are brought back: they have

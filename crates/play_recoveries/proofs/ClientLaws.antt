@@ -7,16 +7,16 @@ use Rattle.hd_base.specs.declared.links.LinkOut as link_out
 use Rattle.hd_base.specs.declared.roads.Roads as roads
 use Rattle.recovery_core.specs.declared.primary.Phase.{Phase}
 use Rattle.recovery_core.specs.declared.standings.Standing as member
-use Rattle.block_recovery.specs.declared.links.Seat.{Seat}
-use Rattle.block_recovery.specs.declared.links.Seat.TheVariants as seat
-use Rattle.block_recovery.specs.Dialling.{LinkIsKnown}
+use Rattle.play_primaries.specs.BlockRecovery.Seat.{Seat}
+use Rattle.play_primaries.specs.BlockRecovery.Seat.TheVariants as seat
+use Rattle.play_primaries.specs.BlockRecovery.Dialling.{LinkIsKnown}
 use Rattle.road_traffic.specs.Showing.{Net, RoadsShow}
 use Rattle.world.specs.Parts.{Upper, by_writer, by_member, by_primary, Leading, no_primary}
 use Rattle.world.specs.Primaries.{listens}
 use Rattle.world.specs.Worlds.{World}
-use Rattle.world_nets.specs.Nets.{IsEndOf, is_over}
-use Rattle.world_orders.specs.Orders.{Ordered, purpose_of, pipeline, reading, recovering}
-use Rattle.primary_events.specs.Showing.{IsShut, SeatShows, PlaceShows}
+use Rattle.play_servers.specs.WorldNets.Nets.{IsEndOf, is_over}
+use Rattle.play_nodes.specs.WorldOrders.Orders.{Ordered, purpose_of, pipeline, reading, recovering}
+use Rattle.play_primaries.specs.PrimaryEvents.Showing.{IsShut, SeatShows, PlaceShows}
 use Rattle.play_model.specs.declared.recoveries.Recovery.{Recovery}
 use Rattle.play_nodes.specs.declared.nodes.Nodes.{Nodes}
 use Rattle.play_nodes.specs.Numbers.{IsNumbered}

@@ -13,7 +13,7 @@ use Rattle.world.specs.Enabled.{takes_down, can_up}
 use Rattle.world.specs.Parts as parts
 use Rattle.world.specs.Parts.{by_writer, by_member, by_reader, by_primary, Lower, idle, writes, serves, recovers, ended_below}
 use Rattle.world.specs.Worlds.{World}
-use Rattle.world_orders.specs.Orders.{purpose_of, recovering}
+use Rattle.play_nodes.specs.WorldOrders.Orders.{purpose_of, recovering}
 use Rattle.play_model.specs.Dues.{is_open, is_open_above}
 use Rattle.play_nodes.specs.declared.connections.Connection.{Connection}
 use Rattle.play_nodes.specs.declared.connections.Upper.{Upper}

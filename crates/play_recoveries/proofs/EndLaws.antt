@@ -3,9 +3,9 @@ use Rattle.std.proofs.Common.{◌≡◌, ◌<◌, ◌≤◌, ◌+◌, ℕ, Bool,
 use Rattle.std.specs.Prelude.{◌==◌, ◌&&◌, nat_lt, OnOk}
 use Rattle.std.proofs.lemmas.Bool.Decides.{nat_tests}
 use Rattle.std.proofs.lemmas.List.Elements.{All-weaker}
-use Rattle.block_recovery.specs.declared.links.Seat.{Seat}
-use Rattle.block_recovery.specs.declared.links.Seat.TheVariants as seat
-use Rattle.block_recovery.specs.Dialling.{LinkIsKnown}
+use Rattle.play_primaries.specs.BlockRecovery.Seat.{Seat}
+use Rattle.play_primaries.specs.BlockRecovery.Seat.TheVariants as seat
+use Rattle.play_primaries.specs.BlockRecovery.Dialling.{LinkIsKnown}
 use Rattle.hd_base.specs.Channels.{Plain}
 use Rattle.hd_base.specs.Ends.{IsKnown}
 use Rattle.hd_base.specs.declared.ends.Conn.{Conn}
@@ -20,13 +20,13 @@ use Rattle.road_traffic.specs.Laws.{BringsShow}
 use Rattle.road_traffic.specs.Showing.{Net, RoadsShow, flushed_net}
 use Rattle.world.specs.Nodes.{node_of}
 use Rattle.world.specs.Worlds.{World}
-use Rattle.world_nets.specs.Dials.{NetsStaySane}
-use Rattle.world_nets.specs.Ends.{IsElsewhere, EndsElsewhereStay}
-use Rattle.world_nets.specs.Nets.{IsEndOf, held_by, is_over}
-use Rattle.world_nets.specs.Steps.{IdleFlushesAreNets}
-use Rattle.member_events.specs.Roads.{RoadsPass}
-use Rattle.member_events.specs.Showing.{ShowsWorld}
-use Rattle.member_events.proofs.SetupKnown.{pass_same, pass_on}
+use Rattle.play_servers.specs.WorldNets.Dials.{NetsStaySane}
+use Rattle.play_servers.specs.WorldNets.Ends.{IsElsewhere, EndsElsewhereStay}
+use Rattle.play_servers.specs.WorldNets.Nets.{IsEndOf, held_by, is_over}
+use Rattle.play_servers.specs.WorldNets.Steps.{IdleFlushesAreNets}
+use Rattle.play_nodes.specs.MemberEvents.Roads.{RoadsPass}
+use Rattle.play_nodes.specs.MemberEvents.Showing.{ShowsWorld}
+use Rattle.play_nodes.proofs.MemberEvents.SetupKnown.{pass_same, pass_on}
 use Rattle.play_nodes.specs.declared.nodes.Nodes.{Nodes}
 use Rattle.play_nodes.specs.Elsewhere.{NodesFollow}
 use Rattle.play_nodes.specs.Showing.{NodesShow}

@@ -6,9 +6,9 @@ use Rattle.world.specs.declared.events.Direction.TheVariants as direction
 use Rattle.world.specs.declared.events.Event.TheVariants as event
 use Rattle.world.specs.Parts.{Upper, by_writer, by_member, by_reader, by_primary}
 use Rattle.world.specs.Worlds.{World}
-use Rattle.world_cuts.specs.Cutting.{cut_world, cut_net, IsCut, CutsAreLosses, EndsStayInCuts}
-use Rattle.world_cuts.proofs.CutLemmas.{over_cut}
-use Rattle.world_orders.specs.Orders.{purpose_of, recovering}
+use Rattle.play_primaries.specs.WorldCuts.Cutting.{cut_world, cut_net, IsCut, CutsAreLosses, EndsStayInCuts}
+use Rattle.play_primaries.proofs.WorldCuts.CutLemmas.{over_cut}
+use Rattle.play_nodes.specs.WorldOrders.Orders.{purpose_of, recovering}
 use Rattle.play_nodes.specs.Showing.{is_pipeline}
 use Rattle.play_primaries.specs.Staying.{PrimaryClientsStay}
 use Rattle.play_recoveries.specs.Keeping.{CutsKeepRecoveries}

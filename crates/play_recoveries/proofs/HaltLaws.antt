@@ -13,12 +13,12 @@ use Rattle.world.specs.Connections.{is_alive}
 use Rattle.world.specs.Events.{happens}
 use Rattle.world.specs.Parts.{Dialled, Place, by_primary, Leading, no_primary, leads, has_led}
 use Rattle.world.specs.Worlds.{World}
-use Rattle.world_nets.specs.Nets.{IsEndOf}
-use Rattle.world_orders.specs.Orders.{purpose_of}
-use Rattle.member_events.specs.Roads.{RoadsPass}
-use Rattle.member_events.specs.Showing.{ShowsWorld}
-use Rattle.member_events.proofs.SetupKnown.{pass_same, pass_on}
-use Rattle.primary_events.specs.Leading.{IsNoneOf}
+use Rattle.play_servers.specs.WorldNets.Nets.{IsEndOf}
+use Rattle.play_nodes.specs.WorldOrders.Orders.{purpose_of}
+use Rattle.play_nodes.specs.MemberEvents.Roads.{RoadsPass}
+use Rattle.play_nodes.specs.MemberEvents.Showing.{ShowsWorld}
+use Rattle.play_nodes.proofs.MemberEvents.SetupKnown.{pass_same, pass_on}
+use Rattle.play_primaries.specs.PrimaryEvents.Leading.{IsNoneOf}
 use Rattle.play_model.specs.declared.recoveries.Recovery.{Recovery}
 use Rattle.play_model.specs.Recoveries.{stopped_at}
 use Rattle.play_nodes.proofs.Numbers.{same_place}

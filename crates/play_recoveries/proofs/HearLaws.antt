@@ -11,13 +11,13 @@ use Rattle.world.specs.Enabled.{can_up}
 use Rattle.world.specs.Events.{happens}
 use Rattle.world.specs.Parts.{by_primary}
 use Rattle.world.specs.Worlds.{World}
-use Rattle.world_laws.proofs.FactTables.{and-right}
-use Rattle.world_nets.specs.Ends.{IsElsewhere}
-use Rattle.world_orders.specs.Orders.{Ordered, purpose_of, recovering}
-use Rattle.client_events.specs.Showing.{OthersStay}
-use Rattle.primary_events.specs.declared.faults.PrimaryFault.{PrimaryFault}
-use Rattle.primary_events.specs.declared.faults.PrimaryFault.TheVariants as primary_fault
-use Rattle.primary_events.specs.Faults as primary
+use Rattle.play_model.proofs.WorldLaws.FactTables.{and-right}
+use Rattle.play_servers.specs.WorldNets.Ends.{IsElsewhere}
+use Rattle.play_nodes.specs.WorldOrders.Orders.{Ordered, purpose_of, recovering}
+use Rattle.play_primaries.specs.ClientEvents.Showing.{OthersStay}
+use Rattle.play_primaries.specs.PrimaryEvents.PrimaryFault.{PrimaryFault}
+use Rattle.play_primaries.specs.PrimaryEvents.PrimaryFault.TheVariants as primary_fault
+use Rattle.play_primaries.specs.PrimaryEvents.Faults as primary
 use Rattle.play_model.specs.declared.dues.Due.TheVariants as due
 use Rattle.play_model.specs.Dues.{Queues, is_due, is_open_above}
 use Rattle.play_nodes.specs.declared.nodes.Nodes.{Nodes}

@@ -11,8 +11,8 @@ use Rattle.world.specs.Connections.{next_up}
 use Rattle.world.specs.Enabled.{takes_above}
 use Rattle.world.specs.Parts.{by_primary}
 use Rattle.world.specs.Worlds.{World}
-use Rattle.world_laws.proofs.FactTables.{and-left}
-use Rattle.primary_events.specs.declared.faults.PrimaryFault.{PrimaryFault}
+use Rattle.play_model.proofs.WorldLaws.FactTables.{and-left}
+use Rattle.play_primaries.specs.PrimaryEvents.PrimaryFault.{PrimaryFault}
 use Rattle.play_model.specs.declared.dues.Due.TheVariants as due
 use Rattle.play_model.specs.Dues.{Queues, is_due}
 use Rattle.play_nodes.specs.declared.nodes.Nodes.{Nodes}

@@ -5,7 +5,7 @@ use Rattle.hd_base.specs.declared.links.LinkOut as link_out
 use Rattle.road_traffic.specs.Showing.{Net}
 use Rattle.world.specs.Parts.{Primary, no_primary, was_told, leads, has_led}
 use Rattle.world.specs.Worlds.{World}
-use Rattle.world_orders.specs.Orders.{purpose_of}
+use Rattle.play_nodes.specs.WorldOrders.Orders.{purpose_of}
 use Rattle.play_model.specs.declared.recoveries.Recovery.{Recovery}
 use Rattle.play_nodes.proofs.Numbers.{PutOr, put_or, ascend_put}
 use Rattle.play_primaries.specs.declared.clients.PrimaryClient.{PrimaryClient}

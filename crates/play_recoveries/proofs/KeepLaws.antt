@@ -11,8 +11,8 @@ use Rattle.road_traffic.specs.Showing.{Net}
 use Rattle.world.specs.Connections.{is_alive, is_served}
 use Rattle.world.specs.Parts.{Dialled, Place, request, by_primary, Leading, leads, Primary, Lower, idle, recovers, ended_below}
 use Rattle.world.specs.Worlds.{World}
-use Rattle.world_nets.specs.Nets.{IsEndOf}
-use Rattle.world_orders.specs.Orders.{Ordered, PrimaryIs, purpose_of, recovering}
+use Rattle.play_servers.specs.WorldNets.Nets.{IsEndOf}
+use Rattle.play_nodes.specs.WorldOrders.Orders.{Ordered, PrimaryIs, purpose_of, recovering}
 use Rattle.play_model.specs.declared.recoveries.Recovery.{Recovery}
 use Rattle.play_primaries.specs.declared.clients.PrimaryClient.{PrimaryClient}
 use Rattle.play_primaries.specs.Staying.{KeepsConn, KeepsPrimaryClient, PrimaryClientsStay}

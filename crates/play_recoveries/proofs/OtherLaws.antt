@@ -8,15 +8,15 @@ use Rattle.world.specs.declared.events.Event.TheVariants as event
 use Rattle.world.specs.Events.{run}
 use Rattle.world.specs.Parts.{Upper, by_writer, by_member, by_reader, by_primary}
 use Rattle.world.specs.Worlds.{World}
-use Rattle.world_nets.specs.Ends.{IsElsewhere}
-use Rattle.world_orders.specs.Orders.{Ordered, IsWriterConn, purpose_of, reading, recovering}
-use Rattle.client_events.specs.Showing.{OthersStay}
+use Rattle.play_servers.specs.WorldNets.Ends.{IsElsewhere}
+use Rattle.play_nodes.specs.WorldOrders.Orders.{Ordered, IsWriterConn, purpose_of, reading, recovering}
+use Rattle.play_primaries.specs.ClientEvents.Showing.{OthersStay}
 use Rattle.play_model.specs.declared.dues.Due.TheVariants as due
 use Rattle.play_model.specs.Asks.{asking_node, request_of}
 use Rattle.play_model.specs.Dues.{due_events}
 use Rattle.play_nodes.specs.Elsewhere.{KeepsElsewhere, DownLeaves, ReadyLeaves, MirrorLeaves, OwnLeaves, HeardLeaves}
 use Rattle.play_nodes.specs.Showing.{is_pipeline, ElsewhereStays}
-use Rattle.play_readers.specs.Frames as readers
+use Rattle.play_primaries.specs.PlayReaders.Frames as readers
 use Rattle.play_primaries.specs.Frames as primaries
 use Rattle.play_recoveries.specs.Keeping.{KeepsPrimaries, KeepsServers, RecoveringEndsStay}
 use Rattle.play_recoveries.specs.Others.{OwnStepsKeepRecoveries, HearingKeepsRecoveries, DownKeepsRecoveries, ReadyKeepsRecoveries, MirrorKeepsRecoveries, AskingKeepsRecoveries, ReadingKeepsRecoveries, ServingKeepsRecoveries, SendingKeepsRecoveries}

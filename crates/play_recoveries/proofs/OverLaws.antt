@@ -8,19 +8,19 @@ use Rattle.hd_base.specs.declared.links.LinkOut as link_out
 use Rattle.hd_base.specs.declared.numbers.BlockId.{BlockId}
 use Rattle.hd_base.specs.declared.numbers.ConnId.{ConnId}
 use Rattle.recovery_core.specs.declared.standings.Standing as member
-use Rattle.block_recovery.specs.declared.links.Link.{Link}
-use Rattle.block_recovery.specs.declared.links.Seat.{Seat}
-use Rattle.block_recovery.specs.declared.links.Seat.TheVariants as seat
-use Rattle.block_recovery.specs.Awaiting.{hearing_conn}
+use Rattle.play_primaries.specs.BlockRecovery.Link.{Link}
+use Rattle.play_primaries.specs.BlockRecovery.Seat.{Seat}
+use Rattle.play_primaries.specs.BlockRecovery.Seat.TheVariants as seat
+use Rattle.play_primaries.specs.BlockRecovery.Awaiting.{hearing_conn}
 use Rattle.road_traffic.specs.Showing.{Net}
 use Rattle.world.specs.Connections.{is_served}
 use Rattle.world.specs.Enabled.{leads_from, listens_at}
 use Rattle.world.specs.Parts.{Upper, by_writer, by_member, by_reader, by_primary, Primary, Leading, no_primary, leads, has_led, Lower, idle, recovers, ended_below}
 use Rattle.world.specs.Primaries.{listens}
 use Rattle.world.specs.Worlds.{World}
-use Rattle.world_nets.specs.Nets.{is_over}
-use Rattle.world_recoveries.specs.Recovering.{IsPlacedIn}
-use Rattle.primary_events.specs.Showing.{LinkShows, SeatShows, PlaceShows}
+use Rattle.play_servers.specs.WorldNets.Nets.{is_over}
+use Rattle.play_primaries.specs.WorldRecoveries.Recovering.{IsPlacedIn}
+use Rattle.play_primaries.specs.PrimaryEvents.Showing.{LinkShows, SeatShows, PlaceShows}
 use Rattle.play_model.specs.declared.recoveries.Recovery.{Recovery}
 use Rattle.play_model.specs.Dues.{is_open}
 use Rattle.play_nodes.specs.declared.nodes.Nodes.{Nodes}

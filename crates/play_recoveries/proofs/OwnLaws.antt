@@ -13,12 +13,12 @@ use Rattle.world.specs.declared.events.Event.{Event}
 use Rattle.world.specs.Events.{run}
 use Rattle.world.specs.Parts.{Dialled, by_primary, Primary, no_primary, was_told, leads, has_led, Lower, idle}
 use Rattle.world.specs.Worlds.{World}
-use Rattle.world_laws.specs.Placing.{Placed}
-use Rattle.world_nets.specs.Nets.{IsEndOf}
-use Rattle.world_orders.specs.Orders.{Ordered, purpose_of, recovering}
-use Rattle.primary_events.specs.Beginning.{LowerShows}
-use Rattle.primary_events.specs.Leading.{IsNoneOf}
-use Rattle.primary_events.specs.Showing.{IsShut}
+use Rattle.play_model.specs.WorldLaws.Placing.{Placed}
+use Rattle.play_servers.specs.WorldNets.Nets.{IsEndOf}
+use Rattle.play_nodes.specs.WorldOrders.Orders.{Ordered, purpose_of, recovering}
+use Rattle.play_primaries.specs.PrimaryEvents.Beginning.{LowerShows}
+use Rattle.play_primaries.specs.PrimaryEvents.Leading.{IsNoneOf}
+use Rattle.play_primaries.specs.PrimaryEvents.Showing.{IsShut}
 use Rattle.play_model.specs.declared.recoveries.Recovery.{Recovery}
 use Rattle.play_model.specs.Recoveries.{all_answered, primary_events}
 use Rattle.play_nodes.specs.declared.nodes.Nodes.{Nodes}
@@ -32,7 +32,7 @@ use Rattle.play_primaries.specs.Frames as primaries
 use Rattle.play_primaries.specs.Owning as owning
 use Rattle.play_primaries.specs.Owning.{dials_in, led_conns, step_events}
 use Rattle.play_primaries.specs.Staying.{PrimaryClientsStay}
-use Rattle.play_readers.specs.Frames.{TakesNothing}
+use Rattle.play_primaries.specs.PlayReaders.Frames.{TakesNothing}
 use Rattle.play_servers.specs.declared.recoveries.AnswerEnd.TheVariants as answer_end
 use Rattle.play_servers.specs.declared.recoveries.RecoveryServer.{RecoveryServer}
 use Rattle.play_servers.specs.Recoveries.{EndShows, ServerShows}

@@ -9,16 +9,16 @@ use Rattle.hd_base.specs.declared.links.LinkIn as link_in
 use Rattle.hd_base.specs.declared.links.LinkOut as link_out
 use Rattle.hd_base.specs.declared.numbers.NodeId.{NodeId}
 use Rattle.hd_base.specs.declared.roads.Roads as roads
-use Rattle.block_recovery.specs.Dialling.{dial_port}
+use Rattle.play_primaries.specs.BlockRecovery.Dialling.{dial_port}
 use Rattle.name_core.specs.declared.desks.Desk as desk
 use Rattle.road_traffic.specs.Showing.{Net}
 use Rattle.world.specs.declared.events.Event.{Event}
 use Rattle.world.specs.Events.{run}
 use Rattle.world.specs.Parts.{Primary, no_primary, was_told, leads, has_led}
 use Rattle.world.specs.Worlds.{World}
-use Rattle.primary_events.specs.declared.faults.PrimaryFault.{PrimaryFault}
-use Rattle.primary_events.specs.declared.faults.PrimaryFault.TheVariants as primary_fault
-use Rattle.primary_events.specs.Beginning.{IsBeginCause, IsUnreached}
+use Rattle.play_primaries.specs.PrimaryEvents.PrimaryFault.{PrimaryFault}
+use Rattle.play_primaries.specs.PrimaryEvents.PrimaryFault.TheVariants as primary_fault
+use Rattle.play_primaries.specs.PrimaryEvents.Beginning.{IsBeginCause, IsUnreached}
 use Rattle.play_model.specs.declared.recoveries.Recovery.{Recovery}
 use Rattle.play_model.specs.Recoveries.{all_answered, recovery_due, recovery_events}
 use Rattle.play_nodes.specs.declared.nodes.Nodes.{Nodes}
@@ -28,7 +28,7 @@ use Rattle.play_primaries.specs.declared.clients.PrimaryClient.{PrimaryClient}
 use Rattle.play_primaries.specs.Frames as primaries
 use Rattle.play_primaries.specs.Owning as owning
 use Rattle.play_primaries.specs.Staying.{PrimaryClientsStay}
-use Rattle.play_readers.specs.Frames.{TakesNothing}
+use Rattle.play_primaries.specs.PlayReaders.Frames.{TakesNothing}
 use Rattle.play_recoveries.specs.declared.faults.RecoveriesFault.{RecoveriesFault}
 use Rattle.play_recoveries.specs.declared.faults.RecoveriesFault.TheVariants as fault
 use Rattle.play_recoveries.specs.declared.recoveries.Recoveries.{Recoveries}

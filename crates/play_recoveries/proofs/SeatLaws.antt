@@ -19,14 +19,14 @@ use Rattle.world.specs.Events.{happens}
 use Rattle.world.specs.Nodes.{node_of}
 use Rattle.world.specs.Parts.{Message, request, packet, ack, response, read_status, recovery_answer, Lower, idle, recovers, ended_below}
 use Rattle.world.specs.Worlds.{World}
-use Rattle.world_laws.proofs.FactTables.{and-left, and-right}
-use Rattle.world_laws.specs.Placing.{Placed}
-use Rattle.world_orders.specs.Orders.{Ordered, Purpose, comes_down, is_recovery, purpose_of, recovering}
+use Rattle.play_model.proofs.WorldLaws.FactTables.{and-left, and-right}
+use Rattle.play_model.specs.WorldLaws.Placing.{Placed}
+use Rattle.play_nodes.specs.WorldOrders.Orders.{Ordered, Purpose, comes_down, is_recovery, purpose_of, recovering}
 use Rattle.play_model.specs.declared.dues.Due.TheVariants as due
 use Rattle.play_model.specs.Dues.{Queues, is_open, is_due}
-use Rattle.recovery_events.specs.declared.faults.RecoveryFault.{RecoveryFault}
-use Rattle.recovery_events.specs.declared.faults.RecoveryFault.TheVariants as recovery_fault
-use Rattle.recovery_events.specs.Faults.{IsCause}
+use Rattle.play_servers.specs.RecoveryEvents.RecoveryFault.{RecoveryFault}
+use Rattle.play_servers.specs.RecoveryEvents.RecoveryFault.TheVariants as recovery_fault
+use Rattle.play_servers.specs.RecoveryEvents.Faults.{IsCause}
 use Rattle.play_nodes.specs.declared.connections.Connection.{Connection}
 use Rattle.play_nodes.specs.declared.nodes.NodeBooks.{NodeBooks}
 use Rattle.play_nodes.specs.declared.nodes.Nodes.{Nodes}
@@ -55,7 +55,7 @@ use Rattle.play_recoveries.specs.Showing.{IsServer, RecoveriesStand, Stand}
 use Rattle.play_recoveries.specs.Keeping.{KeepsPrimaries}
 use Rattle.play_recoveries.proofs.DueLaws.{server_conn}
 use Rattle.play_recoveries.proofs.ShutLaws.{happens_shut}
-use Rattle.world_settling.proofs.Actors.{primaries-stay}
+use Rattle.play_primaries.proofs.WorldSettling.Actors.{primaries-stay}
 use Rattle.play_recoveries.proofs.KeepLaws.{before_so}
 use Rattle.play_recoveries.proofs.ServeLaws.{BooksChanged, ServerChanged, books_before, served_left, drawer_failed}
 

@@ -12,11 +12,11 @@ use Rattle.road_traffic.specs.Showing.{Net}
 use Rattle.world.specs.Nodes.{node_of}
 use Rattle.world.specs.Parts.{Dialled}
 use Rattle.world.specs.Worlds.{World}
-use Rattle.world_laws.specs.Placing.{Placed}
-use Rattle.world_nets.specs.Ends.{IsElsewhere}
-use Rattle.world_nets.specs.Nets.{is_over}
-use Rattle.world_orders.specs.Orders.{Ordered, purpose_of, recovering}
-use Rattle.member_events.specs.Showing.{IsNoneOf}
+use Rattle.play_model.specs.WorldLaws.Placing.{Placed}
+use Rattle.play_servers.specs.WorldNets.Ends.{IsElsewhere}
+use Rattle.play_servers.specs.WorldNets.Nets.{is_over}
+use Rattle.play_nodes.specs.WorldOrders.Orders.{Ordered, purpose_of, recovering}
+use Rattle.play_nodes.specs.MemberEvents.Showing.{IsNoneOf}
 use Rattle.play_nodes.specs.declared.nodes.NodeBooks.{NodeBooks}
 use Rattle.play_nodes.specs.declared.nodes.Nodes.{Nodes}
 use Rattle.play_nodes.specs.Elsewhere.{NodeShows, NodesFollow}

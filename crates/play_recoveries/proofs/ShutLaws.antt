@@ -14,11 +14,11 @@ use Rattle.world.specs.Parts.{Marks}
 use Rattle.world.specs.Primaries.{office_event}
 use Rattle.world.specs.Restarts.{restart}
 use Rattle.world.specs.Worlds.{World, Change, put}
-use Rattle.world_laws.specs.Growing.{Begins}
-use Rattle.world_laws.proofs.FactTables.{when-each}
-use Rattle.world_laws.proofs.GrowthLaws.{run-grows}
-use Rattle.primary_events.specs.Showing.{IsShut}
-use Rattle.primary_events.proofs.ShutLemmas.{apply_stays}
+use Rattle.play_model.specs.WorldLaws.Growing.{Begins}
+use Rattle.play_model.proofs.WorldLaws.FactTables.{when-each}
+use Rattle.play_model.proofs.WorldLaws.GrowthLaws.{run-grows}
+use Rattle.play_primaries.specs.PrimaryEvents.Showing.{IsShut}
+use Rattle.play_primaries.proofs.PrimaryEvents.ShutLemmas.{apply_stays}
 use Rattle.play_recoveries.specs.Keeping.{FirstStays, RequestsStay}
 
 -- FIRST MESSAGES

@@ -11,7 +11,7 @@ use Rattle.world.specs.declared.events.FoundReplica.{FoundReplica}
 use Rattle.world.specs.Connections.{is_alive, is_served}
 use Rattle.world.specs.Parts.{Dialled, Place}
 use Rattle.world.specs.Worlds.{World}
-use Rattle.world_orders.specs.Orders.{purpose_of}
+use Rattle.play_nodes.specs.WorldOrders.Orders.{purpose_of}
 use Rattle.play_model.specs.declared.recoveries.Recovery.{Recovery}
 use Rattle.play_primaries.specs.Staying.{KeepsPrimaryClient, PrimaryClientsStay}
 use Rattle.play_servers.specs.declared.recoveries.RecoveryServer.{RecoveryServer}

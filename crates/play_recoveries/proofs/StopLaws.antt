@@ -16,9 +16,9 @@ use Rattle.world.specs.Events.{happens}
 use Rattle.world.specs.Nodes.{node_of}
 use Rattle.world.specs.Parts.{Dialled, Lower, idle, writes, serves, recovers, ended_below}
 use Rattle.world.specs.Worlds.{World}
-use Rattle.world_nets.specs.Nets.{IsEndOf}
-use Rattle.world_orders.specs.Orders.{purpose_of, recovering}
-use Rattle.member_events.specs.Roads.{RoadsPass}
+use Rattle.play_servers.specs.WorldNets.Nets.{IsEndOf}
+use Rattle.play_nodes.specs.WorldOrders.Orders.{purpose_of, recovering}
+use Rattle.play_nodes.specs.MemberEvents.Roads.{RoadsPass}
 use Rattle.play_model.specs.declared.recoveries.Recovery.{Recovery}
 use Rattle.play_model.specs.Recoveries.{stopped_at}
 use Rattle.play_nodes.specs.declared.nodes.Nodes.{Nodes}

@@ -13,11 +13,11 @@ use Rattle.replica_model.specs.declared.events.ReplicaEvent.{ReplicaEvent}
 use Rattle.replica_model.specs.declared.events.ReplicaEvent.TheVariants as replica_event
 use Rattle.replica_model.specs.Rows.{FullReplica}
 use Rattle.request_refusals.specs.declared.refusals.RequestRefusal.{RequestRefusal}
-use Rattle.member_core.specs.declared.turns.Turn.{Turn}
-use Rattle.member_core.specs.Members.{down_turn}
-use Rattle.member_core.specs.Requests.{request_event}
-use Rattle.member_core.specs.Steps.{Step, Setup, step, faulted_step, ready_turn_at, request_step, faulted_request}
-use Rattle.read_core.specs.Servings.{ServingState, refusing, faulted_read, faulted_piece, next_call, piece_at, read_at, read_event}
+use Rattle.world.specs.MemberCore.Turn.{Turn}
+use Rattle.world.specs.MemberCore.Members.{down_turn}
+use Rattle.world.specs.MemberCore.Requests.{request_event}
+use Rattle.world.specs.MemberCore.Steps.{Step, Setup, step, faulted_step, ready_turn_at, request_step, faulted_request}
+use Rattle.world.specs.ReadCore.Servings.{ServingState, refusing, faulted_read, faulted_piece, next_call, piece_at, read_at, read_event}
 use Rattle.recovery_core.specs.declared.members.RecoveryReply.{RecoveryReply}
 use Rattle.recovery_core.specs.Members.{Served, recovery_event, serve, serve_faulted}
 use Rattle.world.specs.declared.events.Event as happening
@@ -27,11 +27,11 @@ use Rattle.world.specs.Worlds.{World, Change, apply}
 use Rattle.world.specs.Connections.{Next, message, the_end, next_down, down_taken, is_served}
 use Rattle.world.specs.Nodes.{replica_at, node_of, block_of, broke_at, is_asked, closing, unless_failing, above_of, member_change, failing_turn, turn_change, takes_next, pending_at, member_down, ready_change, setup_change, failing_write, write_request, breaking, read_change, failing_read, read_request, piece_as, serve_change, recovery_change, failing_recovery, recovery_request, first_message, next_recovery, lower_down, lower_ready}
 use Rattle.world.specs.Events.{changed, outcome, after_event, happens, down_as}
-use Rattle.world_laws.proofs.FactTables.{when-each}
-use Rattle.world_laws.proofs.GrowthLaws.{apply-grows}
+use Rattle.play_model.proofs.WorldLaws.FactTables.{when-each}
+use Rattle.play_model.proofs.WorldLaws.GrowthLaws.{apply-grows}
 use Rattle.play_nodes.specs.Showing.{is_pipeline}
 use Rattle.play_nodes.proofs.PipelineDials.{OfPipelines, members_dial, fresh_dial}
-use Rattle.world_settling.proofs.Members.{lower-other}
+use Rattle.play_primaries.proofs.WorldSettling.Members.{lower-other}
 use Rattle.play_recoveries.specs.Keeping.{KeepsServed}
 use Rattle.play_recoveries.proofs.KeepLaws.{none_between}
 

@@ -10,10 +10,10 @@ use Rattle.world.specs.Enabled.{leads_from}
 use Rattle.world.specs.Parts as parts
 use Rattle.world.specs.Parts.{by_primary}
 use Rattle.world.specs.Worlds.{World}
-use Rattle.world_nets.specs.Nets.{is_over}
-use Rattle.world_orders.specs.Open.{OpenEnds}
-use Rattle.world_orders.specs.Orders.{purpose_of, recovering}
-use Rattle.member_events.specs.Showing.{ShowsWorld}
+use Rattle.play_servers.specs.WorldNets.Nets.{is_over}
+use Rattle.play_nodes.specs.WorldOrders.Open.{OpenEnds}
+use Rattle.play_nodes.specs.WorldOrders.Orders.{purpose_of, recovering}
+use Rattle.play_nodes.specs.MemberEvents.Showing.{ShowsWorld}
 use Rattle.play_model.specs.declared.dues.Due.TheVariants as due
 use Rattle.play_model.specs.Dues.{Queues, is_due}
 use Rattle.play_nodes.specs.declared.nodes.Nodes.{Nodes}

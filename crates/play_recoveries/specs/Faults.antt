@@ -3,10 +3,10 @@ use Rattle.std.specs.Prelude.{◌≡◌, ℕ, true}
 use Rattle.hd_base.specs.Faults.{FaultsIncreased}
 use Rattle.hd_base.specs.declared.files.Files as files
 use Rattle.hd_base.specs.declared.roads.Roads as roads
-use Rattle.primary_events.specs.declared.faults.PrimaryFault.{PrimaryFault}
-use Rattle.primary_events.specs.declared.faults.PrimaryFault.TheVariants as primary_fault
-use Rattle.recovery_events.specs.declared.faults.RecoveryFault.{RecoveryFault}
-use Rattle.recovery_events.specs.declared.faults.RecoveryFault.TheVariants as recovery_fault
+use Rattle.play_primaries.specs.PrimaryEvents.PrimaryFault.{PrimaryFault}
+use Rattle.play_primaries.specs.PrimaryEvents.PrimaryFault.TheVariants as primary_fault
+use Rattle.play_servers.specs.RecoveryEvents.RecoveryFault.{RecoveryFault}
+use Rattle.play_servers.specs.RecoveryEvents.RecoveryFault.TheVariants as recovery_fault
 use Rattle.play_nodes.specs.declared.nodes.Nodes.{Nodes}
 use Rattle.play_nodes.specs.Events.{DrawerFailed}
 use Rattle.play_recoveries.specs.declared.faults.RecoveriesFault.{RecoveriesFault}

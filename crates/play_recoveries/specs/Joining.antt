@@ -7,7 +7,7 @@ use Rattle.hd_base.specs.declared.numbers.BlockId.{BlockId}
 use Rattle.road_traffic.specs.Showing.{Net}
 use Rattle.world.specs.Parts.{no_primary}
 use Rattle.world.specs.Worlds.{World}
-use Rattle.world_orders.specs.Orders.{purpose_of, recovering}
+use Rattle.play_nodes.specs.WorldOrders.Orders.{purpose_of, recovering}
 use Rattle.play_model.specs.declared.recoveries.Recovery.{Recovery}
 use Rattle.play_primaries.specs.declared.clients.PrimaryClient.{PrimaryClient}
 use Rattle.play_primaries.specs.declared.clients.PrimaryState.TheVariants as state

@@ -13,10 +13,10 @@ use Rattle.world.specs.declared.events.FoundReplica.{FoundReplica}
 use Rattle.world.specs.Events.{happens, run}
 use Rattle.world.specs.Parts.{Message, by_primary}
 use Rattle.world.specs.Worlds.{World}
-use Rattle.world_cuts.specs.Cutting.{cut_net, cut_world}
-use Rattle.world_nets.specs.Nets.{IsEndOf, is_over}
-use Rattle.world_orders.specs.Orders.{Ordered, purpose_of, recovering}
-use Rattle.primary_events.specs.Showing.{IsShut}
+use Rattle.play_primaries.specs.WorldCuts.Cutting.{cut_net, cut_world}
+use Rattle.play_servers.specs.WorldNets.Nets.{IsEndOf, is_over}
+use Rattle.play_nodes.specs.WorldOrders.Orders.{Ordered, purpose_of, recovering}
+use Rattle.play_primaries.specs.PrimaryEvents.Showing.{IsShut}
 use Rattle.play_recoveries.specs.declared.recoveries.Recoveries.{Recoveries}
 use Rattle.play_recoveries.specs.Showing.{RecoveriesShow}
 

@@ -9,8 +9,8 @@ use Rattle.world.specs.declared.events.Event.TheVariants as event
 use Rattle.world.specs.Events.{happens, run}
 use Rattle.world.specs.Parts.{by_writer, by_member}
 use Rattle.world.specs.Worlds.{World}
-use Rattle.world_orders.specs.Orders.{Ordered, purpose_of, reading}
-use Rattle.client_events.specs.Showing.{OthersStay}
+use Rattle.play_nodes.specs.WorldOrders.Orders.{Ordered, purpose_of, reading}
+use Rattle.play_primaries.specs.ClientEvents.Showing.{OthersStay}
 use Rattle.play_model.specs.declared.asks.ReadAsk.{ReadAsk}
 use Rattle.play_model.specs.declared.dues.Due.TheVariants as due
 use Rattle.play_model.specs.Asks.{asking_node}

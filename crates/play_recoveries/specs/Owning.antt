@@ -8,12 +8,12 @@ use Rattle.hd_base.specs.declared.links.LinkIn as link_in
 use Rattle.hd_base.specs.declared.links.LinkOut as link_out
 use Rattle.hd_base.specs.declared.numbers.NodeId.{NodeId}
 use Rattle.hd_base.specs.declared.roads.Roads as roads
-use Rattle.block_recovery.specs.Dialling.{dial_port}
+use Rattle.play_primaries.specs.BlockRecovery.Dialling.{dial_port}
 use Rattle.name_core.specs.declared.desks.Desk as desk
 use Rattle.road_traffic.specs.Showing.{Net}
 use Rattle.world.specs.Events.{run}
 use Rattle.world.specs.Worlds.{World}
-use Rattle.world_laws.specs.Placing.{Placed}
+use Rattle.play_model.specs.WorldLaws.Placing.{Placed}
 use Rattle.play_model.specs.declared.recoveries.Recovery.{Recovery}
 use Rattle.play_model.specs.Recoveries.{recovery_due, recovery_events}
 use Rattle.play_nodes.specs.declared.nodes.Nodes.{Nodes}

@@ -1,7 +1,7 @@
 -- Where the lower ends of connections stand, and how their events end.
 use Rattle.std.specs.Prelude.{◌≡◌, ◌≤◌, ◌<◌, ℕ, length, slice_get, Option, Some, None, Result, Ok, Err}
 use Rattle.hd_base.specs.declared.numbers.NodeId.{NodeId}
-use Rattle.recovery_events.specs.declared.faults.RecoveryFault.{RecoveryFault}
+use Rattle.play_servers.specs.RecoveryEvents.RecoveryFault.{RecoveryFault}
 use Rattle.play_nodes.specs.declared.connections.Connection.{Connection}
 use Rattle.play_nodes.specs.declared.nodes.Nodes.{Nodes}
 use Rattle.play_servers.specs.declared.servers.ServerEvent.{ServerEvent}

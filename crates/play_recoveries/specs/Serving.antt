@@ -10,8 +10,8 @@ use Rattle.world.specs.declared.events.Event.{Event}
 use Rattle.world.specs.declared.events.Event.TheVariants as event
 use Rattle.world.specs.Events.{happens}
 use Rattle.world.specs.Worlds.{World}
-use Rattle.world_laws.specs.Placing.{Placed}
-use Rattle.world_orders.specs.Orders.{Ordered, purpose_of, recovering}
+use Rattle.play_model.specs.WorldLaws.Placing.{Placed}
+use Rattle.play_nodes.specs.WorldOrders.Orders.{Ordered, purpose_of, recovering}
 use Rattle.play_model.specs.declared.dues.Due.TheVariants as due
 use Rattle.play_model.specs.Dues.{Queues, is_due}
 use Rattle.play_nodes.specs.declared.nodes.Nodes.{Nodes}

@@ -7,8 +7,8 @@ use Rattle.hd_base.specs.declared.roads.Roads as roads
 use Rattle.road_traffic.specs.Showing.{Net}
 use Rattle.world.specs.Parts.{by_primary, no_primary}
 use Rattle.world.specs.Worlds.{World}
-use Rattle.world_orders.specs.Orders.{purpose_of, recovering}
-use Rattle.member_events.specs.Showing.{ShowsWorld}
+use Rattle.play_nodes.specs.WorldOrders.Orders.{purpose_of, recovering}
+use Rattle.play_nodes.specs.MemberEvents.Showing.{ShowsWorld}
 use Rattle.play_nodes.specs.declared.nodes.Nodes.{Nodes}
 use Rattle.play_nodes.specs.Showing.{NodesStand}
 use Rattle.play_primaries.specs.declared.clients.PrimaryClient.{PrimaryClient}

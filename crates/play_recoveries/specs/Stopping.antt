@@ -14,9 +14,9 @@ use Rattle.world.specs.Events.{happens}
 use Rattle.world.specs.Nodes.{node_of}
 use Rattle.world.specs.Parts.{by_primary}
 use Rattle.world.specs.Worlds.{World}
-use Rattle.world_nets.specs.Nets.{IsEndOf}
-use Rattle.world_orders.specs.Orders.{Ordered, purpose_of, recovering}
-use Rattle.member_events.specs.Showing.{ShowsWorld}
+use Rattle.play_servers.specs.WorldNets.Nets.{IsEndOf}
+use Rattle.play_nodes.specs.WorldOrders.Orders.{Ordered, purpose_of, recovering}
+use Rattle.play_nodes.specs.MemberEvents.Showing.{ShowsWorld}
 use Rattle.play_model.specs.Recoveries.{stopped_at}
 use Rattle.play_nodes.specs.declared.connections.Connection.{Connection}
 use Rattle.play_nodes.specs.declared.nodes.Nodes.{Nodes}

@@ -1,7 +1,7 @@
 //! Which events of the recoveries are due.
 
 ghost use Rattle.std.specs.Prelude.{◌<◌, IfSome, length, option_map};
-ghost use Rattle.member_events.specs.Roads.{RoadsPass};
+ghost use Rattle.play_nodes.specs.MemberEvents.Roads.{RoadsPass};
 ghost use Rattle.play_recoveries.specs.Dues.{
   TellsStep,
   TellsDown,

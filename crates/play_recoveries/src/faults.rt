@@ -4,8 +4,8 @@ ghost use Rattle.std.specs.Prelude.{◌≡◌};
 ghost use Rattle.play_recoveries.specs.Faults.{of_primary, of_server};
 
 use hd_base::NodeId;
-use primary_events::PrimaryFault;
-use recovery_events::RecoveryFault;
+use play_primaries::PrimaryFault;
+use play_servers::RecoveryFault;
 use thiserror::Error;
 
 /// Why an event of the recoveries isn't done.

@@ -10,9 +10,8 @@ ghost use Rattle.play_recoveries.specs.Keeping.{
 };
 
 use hd_base::{LinkIn, LinkOut};
-use play_primaries::primary_clients_stay;
+use play_primaries::{cuts_are_losses, ends_stay_in_cuts, primary_clients_stay};
 use play_servers::answers_wait;
-use world_cuts::{cuts_are_losses, ends_stay_in_cuts};
 
 /// Whatever happens, the first request that was sent down on a connection stays, and what is shut stays so.
 pub fn requests_stay()

@@ -1,6 +1,6 @@
 //! What a primary hears on a connection.
 
-ghost use Rattle.member_events.specs.Roads.{RoadsPass};
+ghost use Rattle.play_nodes.specs.MemberEvents.Roads.{RoadsPass};
 ghost use Rattle.play_recoveries.specs.Hearing.{HearShows};
 ghost use Rattle.play_recoveries.specs.Showing.{Stand};
 

@@ -15,8 +15,9 @@ ghost use Rattle.play_recoveries.specs.Others.{
 
 use hd_base::{LinkIn, LinkOut};
 use play_nodes::{nodes_keep_elsewhere, writers_keep_elsewhere};
-use play_primaries::{members_keep_primaries, readers_keep_primaries, writers_keep_primaries};
-use play_readers::readers_keep_nodes;
+use play_primaries::{
+    members_keep_primaries, readers_keep_nodes, readers_keep_primaries, writers_keep_primaries,
+};
 
 /// Own steps of writers, and what they hear, keep what recoveries show.
 pub fn writers_keep_recoveries<I: LinkIn, O: LinkOut>()

@@ -1,7 +1,7 @@
 //! The own step of a primary.
 
 ghost use Rattle.std.specs.Prelude.{◌≡◌, ◌<◌, [], ◌∷◌, length};
-ghost use Rattle.member_events.specs.Roads.{RoadsPass};
+ghost use Rattle.play_nodes.specs.MemberEvents.Roads.{RoadsPass};
 ghost use Rattle.play_nodes.specs.Places.{KeepsSizes};
 ghost use Rattle.play_recoveries.specs.Owning.{OwnShows, Reaches, Serve, misses, misses_any};
 ghost use Rattle.play_recoveries.specs.Showing.{Stand};

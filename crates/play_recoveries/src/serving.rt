@@ -1,7 +1,7 @@
 //! The events of the lower ends of connections that primaries dialled.
 
 ghost use Rattle.std.specs.Prelude.{◌≡◌};
-ghost use Rattle.member_events.specs.Roads.{RoadsPass};
+ghost use Rattle.play_nodes.specs.MemberEvents.Roads.{RoadsPass};
 ghost use Rattle.play_nodes.specs.Places.{KeepsSizes};
 ghost use Rattle.play_recoveries.specs.Seats.{IsSeat, followed};
 ghost use Rattle.play_recoveries.specs.Serving.{DownShows};
@@ -13,8 +13,7 @@ use crate::recoveries::Recoveries;
 use hd_base::{ConnId, Files, LinkIn, LinkOut, NodeId, Roads};
 use play_nodes::{Nodes, nodes_follow, upper_ends_stay};
 use play_primaries::primary_clients_stay;
-use play_servers::ServerEvent;
-use recovery_events::RecoveryFault;
+use play_servers::{RecoveryFault, ServerEvent};
 use std::alloc::Global;
 
 /// Where the lower end of a connection stands, and its node.

@@ -2,7 +2,7 @@
 
 ghost use Rattle.std.specs.Prelude.{◌≡◌, ◌≤◌, ◌<◌, length, OnOk};
 ghost use Rattle.hd_base.specs.Ends.{KeepsConnections};
-ghost use Rattle.member_events.specs.Roads.{RoadsPass};
+ghost use Rattle.play_nodes.specs.MemberEvents.Roads.{RoadsPass};
 ghost use Rattle.play_servers.specs.Answering.{AnswerIsKnown};
 ghost use Rattle.play_recoveries.specs.Stopping.{
   AreKnown,
@@ -19,11 +19,10 @@ use crate::recoveries::Recoveries;
 use hd_base::{ConnId, Files, LinkIn, LinkOut, NodeId, Roads};
 use play_nodes::{Nodes, nodes_follow, nodes_stay};
 use play_primaries::primary_clients_stay;
-use play_servers::AnswerEnd;
+use play_servers::{AnswerEnd, ends_elsewhere_stay, idle_flushes_are_nets, nets_stay_sane};
 use road_traffic::brings_show;
 use std::alloc::{AllocError, Global};
 use std::mem;
-use world_nets::{ends_elsewhere_stay, idle_flushes_are_nets, nets_stay_sane};
 
 impl<I: LinkIn, O: LinkOut> Recoveries<I, O> {
     /// Once a node has stopped, its primaries lead no more, and the lower ends of the connections that it took from

@@ -7,9 +7,9 @@ use Rattle.std.proofs.lemmas.Bool.Decides.{nat_tests}
 use Rattle.std.specs.Option.{option_copied}
 use Rattle.std.proofs.lemmas.List.{append-nil, at_drop_all, drop_more}
 use Rattle.std.proofs.lemmas.List.Concat.{flat_map-append}
-use Rattle.client_events.specs.declared.acting.Said.{Said}
-use Rattle.node_opening.proofs.ListLemmas.{take_next}
-use Rattle.play_nodes.proofs.PlaceLaws.{element_within, element_none, element_some}
+use Rattle.play_clients.specs.ClientEvents.Said.{Said}
+use Rattle.play_scripts.proofs.NodeOpening.ListLemmas.{take_next}
+use Rattle.play_scripts.proofs.PlayNodes.PlaceLaws.{element_within, element_none, element_some}
 use Rattle.play_clients.specs.declared.clients.Client.{Client}
 use Rattle.script_lang.specs.declared.instructions.ScriptLine.{ScriptLine}
 use Rattle.script_lang.specs.declared.report.ReportLine.{ReportLine}

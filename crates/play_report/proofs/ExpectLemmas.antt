@@ -9,10 +9,10 @@ use Rattle.std.proofs.lemmas.List.Quantifiers.{position-Some}
 use Rattle.hd_base.specs.declared.links.LinkIn as link_in
 use Rattle.hd_base.specs.declared.links.LinkOut as link_out
 use Rattle.hd_base.specs.declared.numbers.BlockId.{BlockId}
-use Rattle.play_nodes.specs.declared.nodes.Nodes.{Nodes}
-use Rattle.play_nodes.specs.Places.{book_at}
-use Rattle.play_nodes.proofs.PlaceLaws.{same_some}
-use Rattle.node_opening.proofs.ListLemmas.{element_or}
+use Rattle.play_scripts.specs.PlayNodes.Nodes.{Nodes}
+use Rattle.play_scripts.specs.PlayNodes.Places.{book_at}
+use Rattle.play_scripts.proofs.PlayNodes.PlaceLaws.{same_some}
+use Rattle.play_scripts.proofs.NodeOpening.ListLemmas.{element_or}
 use Rattle.play_scripts.specs.Blocks.{numbers}
 use Rattle.replica_files.specs.Books.{replica_of}
 use Rattle.replica_files.specs.declared.book_state.BookState.{BookState}
@@ -24,7 +24,7 @@ use Rattle.script_lang.specs.declared.instructions.ScriptLine.{ScriptLine}
 use Rattle.world.specs.Worlds.{World}
 use Rattle.play_report.specs.declared.expecting.Difference.{Difference}
 use Rattle.play_report.specs.declared.expecting.Expected.{Expected}
-use Rattle.play_nodes.specs.Showing.{runs_in}
+use Rattle.play_scripts.specs.PlayNodes.Showing.{runs_in}
 use Rattle.play_report.specs.Reports.{NodesAre}
 use Rattle.play_report.specs.Expecting.{expected_in, has_block, expected_at, compared, Found, difference_in, or_else, differing_in, told_at, found_in, Differs}
 

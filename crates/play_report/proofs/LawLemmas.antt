@@ -4,16 +4,16 @@ use Rattle.hd_base.specs.declared.files.Files as files
 use Rattle.hd_base.specs.declared.links.LinkIn as link_in
 use Rattle.hd_base.specs.declared.links.LinkOut as link_out
 use Rattle.hd_base.specs.declared.numbers.BlockId.{BlockId}
-use Rattle.node_opening.specs.Closing.{NodesFit}
-use Rattle.play_nodes.specs.declared.connections.Connection.{Connection}
-use Rattle.play_nodes.specs.declared.nodes.NodeBooks.{NodeBooks}
-use Rattle.play_nodes.specs.declared.nodes.Nodes.{Nodes}
-use Rattle.play_nodes.specs.Places.{book_at}
-use Rattle.play_nodes.specs.declared.connections.Lower.{Lower}
-use Rattle.play_nodes.specs.declared.connections.Lower.TheVariants as lower
-use Rattle.play_nodes.specs.Showing.{NodesShow, ConnectionShows, LowerShows}
-use Rattle.play_nodes.proofs.PlaceLaws.{element_within, book_found, book_within}
-use Rattle.play_nodes.proofs.Tables.{element}
+use Rattle.play_scripts.specs.NodeOpening.Closing.{NodesFit}
+use Rattle.play_scripts.specs.PlayNodes.Connection.{Connection}
+use Rattle.play_scripts.specs.PlayNodes.NodeBooks.{NodeBooks}
+use Rattle.play_scripts.specs.PlayNodes.Nodes.{Nodes}
+use Rattle.play_scripts.specs.PlayNodes.Places.{book_at}
+use Rattle.play_scripts.specs.PlayNodes.Lower.{Lower}
+use Rattle.play_scripts.specs.PlayNodes.Lower.TheVariants as lower
+use Rattle.play_scripts.specs.PlayNodes.Showing.{NodesShow, ConnectionShows, LowerShows}
+use Rattle.play_scripts.proofs.PlayNodes.PlaceLaws.{element_within, book_found, book_within}
+use Rattle.play_scripts.proofs.PlayNodes.Tables.{element}
 use Rattle.replica_files.specs.Books.{replica_of}
 use Rattle.replica_files.specs.Summing.{LeavesBook}
 use Rattle.replica_files.specs.declared.book_state.BookState.{BookState}

@@ -8,3 +8,7 @@ pub mod ReportLemmas
 pub mod ExpectLemmas
 pub mod LawLemmas
 pub mod TrueLemmas
+pub mod NodeOpening
+pub mod PlayNodes
+pub mod WorldAcks
+pub mod WorldOrders

@@ -3,10 +3,10 @@ use Rattle.std.proofs.Common.{zero, suc, ◌≡◌, ℕ, List, [], ◌∷◌, sl
 use Rattle.std.specs.Prelude.{map}
 use Rattle.hd_base.specs.declared.links.LinkIn as link_in
 use Rattle.hd_base.specs.declared.links.LinkOut as link_out
-use Rattle.play_readers.specs.Clients.{StateShows, ReadClientShows}
-use Rattle.play_readers.specs.declared.clients.ReadClient.{ReadClient}
-use Rattle.play_readers.specs.declared.clients.ReadState.{ReadState}
-use Rattle.play_readers.specs.declared.clients.ReadState.TheVariants as state
+use Rattle.play_primaries.specs.PlayReaders.Clients.{StateShows, ReadClientShows}
+use Rattle.play_primaries.specs.PlayReaders.ReadClient.{ReadClient}
+use Rattle.play_primaries.specs.PlayReaders.ReadState.{ReadState}
+use Rattle.play_primaries.specs.PlayReaders.ReadState.TheVariants as state
 use Rattle.play_scripts.specs.Reads.{readers_of}
 use Rattle.road_traffic.specs.Showing.{Net}
 use Rattle.script_lang.specs.declared.report.ReadResult.{ReadResult}

@@ -4,7 +4,7 @@ use Rattle.std.proofs.lemmas.List.{append-nil}
 use Rattle.std.specs.Prelude.{map, if◌then◌else◌}
 use Rattle.hd_base.specs.declared.links.LinkIn as link_in
 use Rattle.hd_base.specs.declared.links.LinkOut as link_out
-use Rattle.play_model.specs.declared.recoveries.Recovery.{Recovery}
+use Rattle.play_clients.specs.PlayModel.Recovery.{Recovery}
 use Rattle.play_primaries.specs.Clients.{PrimaryClientShows, StateShows}
 use Rattle.play_primaries.specs.declared.clients.PrimaryClient.{PrimaryClient}
 use Rattle.play_primaries.specs.declared.clients.PrimaryState.{PrimaryState}

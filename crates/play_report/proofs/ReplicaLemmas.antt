@@ -3,7 +3,7 @@ use Rattle.std.proofs.Common.{◌≡◌, ◌<◌, ◌≤◌, ◌+◌, ◌==◌, 
 use Rattle.std.specs.Prelude.{flat_map, unwrap_or, min}
 use Rattle.hd_base.specs.declared.numbers.BlockId.{BlockId}
 use Rattle.hd_base.specs.FileMaps.{FileMap}
-use Rattle.play_nodes.proofs.PlaceLaws.{same_some}
+use Rattle.play_scripts.proofs.PlayNodes.PlaceLaws.{same_some}
 use Rattle.play_scripts.specs.Blocks.{numbers}
 use Rattle.replica_core.specs.declared.info.ReplicaInfo.{ReplicaInfo}
 use Rattle.replica_files.specs.Laws.{IsWhole}

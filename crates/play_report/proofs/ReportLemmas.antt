@@ -13,14 +13,14 @@ use Rattle.hd_base.specs.declared.numbers.BlockId.{BlockId}
 use Rattle.hd_base.specs.declared.sum_rule.SumKind.TheVariants as kind
 use Rattle.play_clients.specs.declared.clients.Client.{Client}
 use Rattle.play_clients.specs.Blocks.{blocks_of}
-use Rattle.play_nodes.specs.declared.nodes.NodeBooks.{NodeBooks}
-use Rattle.play_nodes.specs.declared.nodes.Nodes.{Nodes}
-use Rattle.play_nodes.specs.Places.{book_at}
-use Rattle.play_nodes.specs.Showing.{NodesShow, runs_in, TellsRunning}
-use Rattle.play_nodes.proofs.PlaceLaws.{element_within, same_some, book_found, book_missing, book_within}
-use Rattle.play_nodes.proofs.Tables.{element}
+use Rattle.play_scripts.specs.PlayNodes.NodeBooks.{NodeBooks}
+use Rattle.play_scripts.specs.PlayNodes.Nodes.{Nodes}
+use Rattle.play_scripts.specs.PlayNodes.Places.{book_at}
+use Rattle.play_scripts.specs.PlayNodes.Showing.{NodesShow, runs_in, TellsRunning}
+use Rattle.play_scripts.proofs.PlayNodes.PlaceLaws.{element_within, same_some, book_found, book_missing, book_within}
+use Rattle.play_scripts.proofs.PlayNodes.Tables.{element}
 use Rattle.play_primaries.specs.declared.clients.PrimaryClient.{PrimaryClient}
-use Rattle.play_readers.specs.declared.clients.ReadClient.{ReadClient}
+use Rattle.play_primaries.specs.PlayReaders.ReadClient.{ReadClient}
 use Rattle.play_scripts.specs.Reads.{read_numbers}
 use Rattle.play_scripts.specs.Blocks.{numbers}
 use Rattle.replica_files.specs.Books.{replica_of}
@@ -46,7 +46,7 @@ use Rattle.play_report.proofs.ReadLemmas.{reads_are}
 use Rattle.play_report.proofs.RecoveryLemmas.{asked_are, recoveries_are}
 use Rattle.play_report.proofs.ReplicaLemmas.{row_is, sum_found, found_at, rows_are}
 use Rattle.play_report.proofs.TextLemmas.{text_more, upto_same}
-use Rattle.play_model.specs.Dues.{upto}
+use Rattle.play_clients.specs.PlayModel.Dues.{upto}
 
 -- ANSWERS
 

@@ -5,12 +5,12 @@ use Rattle.std.proofs.lemmas.List.{append-nil, at_drop_all, take_all}
 use Rattle.std.specs.Global.{Vec}
 use Rattle.hd_base.specs.declared.files.Files as files
 use Rattle.hd_base.specs.declared.numbers.NodeId.{NodeId}
-use Rattle.node_opening.specs.Shelves.{EachShelf}
-use Rattle.node_opening.proofs.ListLemmas.{UpTo, up_to_none, up_to_next, up_to_all, up_to_here}
-use Rattle.play_nodes.proofs.PlaceLaws.{same_some, book_found}
-use Rattle.play_nodes.proofs.Tables.{set_here}
-use Rattle.play_nodes.specs.Showing.{runs_in}
-use Rattle.play_nodes.specs.declared.nodes.NodeBooks.{NodeBooks}
+use Rattle.play_scripts.specs.NodeOpening.Shelves.{EachShelf}
+use Rattle.play_scripts.proofs.NodeOpening.ListLemmas.{UpTo, up_to_none, up_to_next, up_to_all, up_to_here}
+use Rattle.play_scripts.proofs.PlayNodes.PlaceLaws.{same_some, book_found}
+use Rattle.play_scripts.proofs.PlayNodes.Tables.{set_here}
+use Rattle.play_scripts.specs.PlayNodes.Showing.{runs_in}
+use Rattle.play_scripts.specs.PlayNodes.NodeBooks.{NodeBooks}
 use Rattle.replica_files.specs.Summing.{LeavesBook, SumsFor}
 use Rattle.replica_files.specs.declared.faults.SumFault.{SumFault}
 use Rattle.replica_files.specs.declared.faults.SumFault.TheVariants as sum

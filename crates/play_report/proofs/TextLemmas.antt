@@ -3,7 +3,7 @@ use Rattle.std.proofs.Common.{◌≡◌, ◌<◌, ◌+◌, ℕ, zero, suc, List,
 use Rattle.std.proofs.lemmas.List.{append-nil}
 use Rattle.std.proofs.lemmas.List.Concat.{flat_map-append}
 use Rattle.std.proofs.lemmas.Result.{on_ok_weaker}
-use Rattle.play_model.specs.Dues.{upto}
+use Rattle.play_clients.specs.PlayModel.Dues.{upto}
 use Rattle.script_lang.specs.Reports.{printed}
 use Rattle.script_lang.specs.declared.report.ReportLine.{ReportLine}
 use Rattle.play_report.specs.Answers.{lines_text}

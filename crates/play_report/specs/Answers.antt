@@ -1,7 +1,7 @@
 -- The answers to the commands of blocks, in a report.
 use Rattle.std.specs.Prelude.{ℕ, ◌==◌, ◌+◌, if◌then◌else◌, Bool, false, List, [], ◌∷◌, ◌++◌, map, flat_map, slice_get, option_map, Option, Some, None}
 use Rattle.std.specs.Option.{option_and_then}
-use Rattle.client_events.specs.declared.acting.Said.{Said}
+use Rattle.play_clients.specs.ClientEvents.Said.{Said}
 use Rattle.play_clients.specs.declared.clients.Client.{Client}
 use Rattle.play_clients.specs.Clients.{said_as}
 use Rattle.script_lang.specs.Reports.{printed}

@@ -3,10 +3,10 @@ use Rattle.std.specs.Prelude.{ℕ, ◌≡◌, Bool, List, Some, IsSome}
 use Rattle.hd_base.specs.declared.files.Files as files
 use Rattle.hd_base.specs.declared.links.LinkIn as link_in
 use Rattle.hd_base.specs.declared.links.LinkOut as link_out
-use Rattle.node_opening.specs.Closing.{NodesFit}
-use Rattle.play_nodes.specs.declared.nodes.Nodes.{Nodes}
-use Rattle.play_nodes.specs.Showing.{NodesShow}
-use Rattle.play_nodes.specs.Places.{book_at}
+use Rattle.play_scripts.specs.NodeOpening.Closing.{NodesFit}
+use Rattle.play_scripts.specs.PlayNodes.Nodes.{Nodes}
+use Rattle.play_scripts.specs.PlayNodes.Showing.{NodesShow}
+use Rattle.play_scripts.specs.PlayNodes.Places.{book_at}
 use Rattle.play_scripts.specs.Blocks.{numbers}
 use Rattle.replica_files.specs.declared.book_state.BookState.{BookState}
 use Rattle.road_traffic.specs.Showing.{Net}

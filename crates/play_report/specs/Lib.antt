@@ -7,3 +7,12 @@ pub mod Replicas
 pub mod Reports
 pub mod Expecting
 pub mod Laws
+pub mod MemberEvents
+pub mod NodeOpening
+pub mod PlayClients
+pub mod PlayLaws
+pub mod PlayNodes
+pub mod PlayPrimaries
+pub mod PlayReaders
+pub mod PlayScripts
+pub mod WorldNets

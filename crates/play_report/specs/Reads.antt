@@ -2,12 +2,12 @@
 use Rattle.std.specs.Prelude.{ℕ, List, Result, Ok, Err}
 use Rattle.chunk_sums.specs.Crc.{sum_of}
 use Rattle.hd_base.specs.declared.sum_rule.SumKind.TheVariants as kind
-use Rattle.play_readers.specs.declared.clients.ReadClient.{ReadClient}
-use Rattle.play_readers.specs.declared.clients.ReadState.{ReadState}
-use Rattle.play_readers.specs.declared.clients.ReadState.TheVariants as state
+use Rattle.play_primaries.specs.PlayReaders.ReadClient.{ReadClient}
+use Rattle.play_primaries.specs.PlayReaders.ReadState.{ReadState}
+use Rattle.play_primaries.specs.PlayReaders.ReadState.TheVariants as state
 use Rattle.read_core.specs.declared.reading.ReadFault.{ReadFault}
 use Rattle.read_core.specs.declared.reading.ReadFault.TheVariants as fault
-use Rattle.reader_events.specs.Hearing.{bytes_read}
+use Rattle.play_primaries.specs.ReaderEvents.Hearing.{bytes_read}
 use Rattle.script_lang.specs.declared.report.ReadResult.{ReadResult}
 use Rattle.script_lang.specs.declared.report.ReadResult.TheVariants as result
 use Rattle.script_lang.specs.declared.report.ReportLine.{ReportLine}

@@ -3,8 +3,8 @@ use Rattle.std.specs.Prelude.{ℕ, if◌then◌else◌, Bool, List, [], ◌∷�
 use Rattle.chunk_sums.specs.Crc.{sum_of}
 use Rattle.hd_base.specs.declared.numbers.BlockId.{BlockId}
 use Rattle.hd_base.specs.declared.sum_rule.SumKind.TheVariants as kind
-use Rattle.play_model.specs.Dues.{upto}
-use Rattle.play_nodes.specs.Showing.{runs_in}
+use Rattle.play_clients.specs.PlayModel.Dues.{upto}
+use Rattle.play_scripts.specs.PlayNodes.Showing.{runs_in}
 use Rattle.replica_core.specs.declared.info.ReplicaInfo.{ReplicaInfo}
 use Rattle.replica_core.specs.Info.{state_of}
 use Rattle.replica_model.specs.Rows.{FullReplica}

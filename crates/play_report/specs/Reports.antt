@@ -8,11 +8,11 @@ use Rattle.hd_base.specs.declared.numbers.BlockId.{BlockId}
 use Rattle.hd_base.specs.declared.sum_rule.SumKind.TheVariants as kind
 use Rattle.play_clients.specs.declared.clients.Client.{Client}
 use Rattle.play_clients.specs.Blocks.{blocks_of}
-use Rattle.play_nodes.specs.declared.nodes.Nodes.{Nodes}
-use Rattle.play_nodes.specs.Places.{book_at}
-use Rattle.play_nodes.specs.Showing.{NodesShow, TellsRunning}
-use Rattle.play_readers.specs.Clients.{ReadClientShows}
-use Rattle.play_readers.specs.declared.clients.ReadClient.{ReadClient}
+use Rattle.play_scripts.specs.PlayNodes.Nodes.{Nodes}
+use Rattle.play_scripts.specs.PlayNodes.Places.{book_at}
+use Rattle.play_scripts.specs.PlayNodes.Showing.{NodesShow, TellsRunning}
+use Rattle.play_primaries.specs.PlayReaders.Clients.{ReadClientShows}
+use Rattle.play_primaries.specs.PlayReaders.ReadClient.{ReadClient}
 use Rattle.play_scripts.specs.Blocks.{numbers}
 use Rattle.play_primaries.specs.Clients.{PrimaryClientShows}
 use Rattle.play_primaries.specs.declared.clients.PrimaryClient.{PrimaryClient}

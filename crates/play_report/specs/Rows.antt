@@ -3,11 +3,11 @@ use Rattle.std.specs.Prelude.{ℕ, ◌≡◌, ◌++◌, min, Bool, true, false, 
 use Rattle.hd_base.specs.Faults.{FaultsIncreased}
 use Rattle.hd_base.specs.declared.files.Files as files
 use Rattle.hd_base.specs.declared.numbers.NodeId.{NodeId}
-use Rattle.node_opening.specs.Shelves.{EachShelf}
-use Rattle.play_nodes.specs.declared.nodes.NodeBooks.{NodeBooks}
-use Rattle.play_nodes.specs.declared.nodes.Nodes.{Nodes}
-use Rattle.play_nodes.specs.Places.{book_at}
-use Rattle.play_nodes.specs.Showing.{runs_in}
+use Rattle.play_scripts.specs.NodeOpening.Shelves.{EachShelf}
+use Rattle.play_scripts.specs.PlayNodes.NodeBooks.{NodeBooks}
+use Rattle.play_scripts.specs.PlayNodes.Nodes.{Nodes}
+use Rattle.play_scripts.specs.PlayNodes.Places.{book_at}
+use Rattle.play_scripts.specs.PlayNodes.Showing.{runs_in}
 use Rattle.replica_files.specs.Books.{replica_of}
 use Rattle.replica_files.specs.Summing.{SumsWritten, LeavesBook}
 use Rattle.replica_files.specs.declared.book_state.BookState.{BookState}

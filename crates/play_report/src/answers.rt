@@ -7,9 +7,8 @@ ghost use Rattle.play_report.specs.Answers.{told, answer_at, said_in, is_given, 
 ghost use Rattle.play_report.specs.Answers.{lines_text, line_answers, next_ordinal};
 
 use crate::results::answer_of;
-use client_events::Said;
 use hd_base::{BlockId, LinkIn, LinkOut};
-use play_clients::Client;
+use play_clients::{Client, Said};
 use script_lang::{Answer, Instruction, ReportLine, ScriptLine, print_line};
 use std::alloc::{AllocError, Global};
 use std::collections::HashMap;

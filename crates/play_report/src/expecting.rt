@@ -6,7 +6,7 @@ ghost use Rattle.play_report.specs.Expecting.{difference_in, differing_in, Diffe
 
 use crate::running::runs_in;
 use hd_base::{BlockId, Files, LinkIn, LinkOut, NodeId, ReplicaState, Stamp};
-use play_nodes::Nodes;
+use play_scripts::Nodes;
 use replica_core::ReplicaInfo;
 use script_lang::{Instruction, ScriptLine};
 

@@ -17,4 +17,10 @@ mod running;
 pub use expecting::{Difference, Expected, first_difference};
 pub use faults::ReportFault;
 pub use laws::{reports_are_true, reports_keep_nodes};
+pub use play_primaries::nets_carry;
+pub use play_scripts::{
+    Head, Nodes, OpenFault, blocks_of, close_nodes, first_unplayed, fitting_books_are_of_blocks,
+    head_of, only_nodes_run, opened_nodes_stand, played_lines_are_told, plays_ask_by_number,
+    plays_recover_by_number, scripts_fit, shown_nodes_fit, standing_nodes_close,
+};
 pub use report::write_report;

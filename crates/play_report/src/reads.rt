@@ -1,13 +1,13 @@
 //! What was read, in a report.
 
 ghost use Rattle.std.specs.Prelude.{◌≡◌, ◌++◌, IfOk, OnOk};
-ghost use Rattle.reader_events.specs.Hearing.{bytes_read};
+ghost use Rattle.play_primaries.specs.ReaderEvents.Hearing.{bytes_read};
 ghost use Rattle.script_lang.specs.Reports.{printed};
 ghost use Rattle.play_report.specs.Reads.{fault_told, result_told, state_told, client_read};
 
 use chunk_sums::crc;
 use hd_base::{LinkIn, LinkOut, SumKind};
-use play_readers::{ReadClient, ReadState};
+use play_primaries::{ReadClient, ReadState};
 use read_core::ReadFault;
 use script_lang::{ReadResult, ReportLine, print_line};
 use std::alloc::AllocError;

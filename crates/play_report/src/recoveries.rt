@@ -19,8 +19,7 @@ ghost use Rattle.play_report.specs.Recoveries.{
 use crate::reads::push_read;
 use crate::results::office_refusal;
 use hd_base::{LinkIn, LinkOut};
-use play_primaries::{PrimaryClient, PrimaryState};
-use play_readers::ReadClient;
+use play_primaries::{PrimaryClient, PrimaryState, ReadClient};
 use recovery_core::Recovered;
 use script_lang::{Instruction, OfficeRefusal, RecoveryResult, ReportLine, ScriptLine, print_line};
 use std::alloc::AllocError;

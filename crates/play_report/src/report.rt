@@ -11,9 +11,8 @@ use crate::replicas::push_nodes;
 use crate::rows::all_rows;
 use hd_base::{Files, LinkIn, LinkOut};
 use play_clients::Client;
-use play_nodes::Nodes;
-use play_primaries::PrimaryClient;
-use play_readers::ReadClient;
+use play_primaries::{PrimaryClient, ReadClient};
+use play_scripts::Nodes;
 use script_lang::{ReportLine, ScriptLine, print_line};
 use std::alloc::Global;
 

@@ -8,7 +8,7 @@ ghost use Rattle.play_report.specs.Rows.{LeavesBooks, LeavesNodes, IsBookFault, 
 use crate::faults::ReportFault;
 use crate::running::runs_in;
 use hd_base::{Files, NodeId};
-use play_nodes::NodeBooks;
+use play_scripts::NodeBooks;
 use replica_core::ReplicaInfo;
 use replica_files::{ReplicaBook, SumFault};
 use std::alloc::Global;

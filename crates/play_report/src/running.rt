@@ -1,7 +1,7 @@
 //! Which nodes run.
 
 ghost use Rattle.std.specs.Prelude.{◌≡◌};
-ghost use Rattle.play_nodes.specs.Showing.{runs_in};
+ghost use Rattle.play_scripts.specs.PlayNodes.Showing.{runs_in};
 
 use hd_base::NodeId;
 

@@ -5,13 +5,13 @@ use Rattle.hd_base.specs.declared.numbers.NodeId.{NodeId}
 use Rattle.script_lang.specs.declared.instructions.Instruction.{Instruction}
 use Rattle.script_lang.specs.declared.instructions.Instruction.TheVariants as says
 use Rattle.script_lang.specs.declared.instructions.ScriptLine.{ScriptLine}
-use Rattle.play_model.specs.declared.asks.ReadAsk.{ReadAsk}
-use Rattle.play_model.specs.declared.dues.Due.{Due}
-use Rattle.play_model.specs.Asks.{ask_at}
-use Rattle.play_model.specs.Draws.{happened, advanced, drawn_from, draw, draws, Settles}
-use Rattle.play_model.specs.Dues.{is_due, dues, after_due}
-use Rattle.play_model.specs.Lines.{stepped, step_due, stop_at, may_start, start_at, PlaysLine, PlaysLines, PlaysFrom, Plays, blocks_of}
-use Rattle.play_model.specs.States.{PlayState, world_of, opened}
+use Rattle.play_laws.specs.PlayModel.ReadAsk.{ReadAsk}
+use Rattle.play_laws.specs.PlayModel.Due.{Due}
+use Rattle.play_laws.specs.PlayModel.Asks.{ask_at}
+use Rattle.play_laws.specs.PlayModel.Draws.{happened, advanced, drawn_from, draw, draws, Settles}
+use Rattle.play_laws.specs.PlayModel.Dues.{is_due, dues, after_due}
+use Rattle.play_laws.specs.PlayModel.Lines.{stepped, step_due, stop_at, may_start, start_at, PlaysLine, PlaysLines, PlaysFrom, Plays, blocks_of}
+use Rattle.play_laws.specs.PlayModel.States.{PlayState, world_of, opened}
 use Rattle.play_scripts.specs.Reads.{is_read, read_numbers, readers_of}
 
 -- WHAT HAPPENS ASKS NOTHING

@@ -9,8 +9,8 @@ use Rattle.script_lang.specs.declared.instructions.Instruction.TheVariants as sa
 use Rattle.script_lang.specs.declared.instructions.ScriptLine.{ScriptLine}
 use Rattle.script_lang.specs.Fits.{Before, fit_rules, after, is_created, most_blocks}
 use Rattle.script_lang.specs.Rules.{AllKept}
-use Rattle.world.specs.Safe.{Has}
-use Rattle.play_model.specs.Lines.{placed, with_block, blocks_of}
+use Rattle.play_laws.specs.World.Safe.{Has}
+use Rattle.play_laws.specs.PlayModel.Lines.{placed, with_block, blocks_of}
 use Rattle.node_opening.specs.Shelves.{AreDistinct}
 use Rattle.play_scripts.specs.Fitting.{LinesFit}
 use Rattle.play_scripts.specs.Blocks.{numbers, AreBlocks}

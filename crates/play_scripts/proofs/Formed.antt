@@ -27,7 +27,7 @@ use Rattle.script_lang.specs.Said
 use Rattle.script_lang.specs.Fits.{Before, start, after}
 use Rattle.script_lang.specs.Scripts.{line_said, line_rules, words_said, some_said, is_comment, command_said, head_said}
 use Rattle.script_lang.proofs.SaidLaws.{kept}
-use Rattle.world.specs.Clients as clients
+use Rattle.play_laws.specs.World.Clients as clients
 use Rattle.play_scripts.proofs.MemberWords.{some_members, formed_members}
 
 -- at least one member and at most 16, none of them twice

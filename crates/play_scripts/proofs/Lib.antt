@@ -8,3 +8,8 @@ pub mod UnplayedLemmas
 pub mod AskLemmas
 pub mod RecoveryLemmas
 mod StormFits
+pub mod MemberEvents
+pub mod NodeOpening
+pub mod PlayLaws
+pub mod PlayNodes
+pub mod WorldAcks

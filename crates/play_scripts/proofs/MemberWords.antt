@@ -6,7 +6,7 @@ use Rattle.std.proofs.lemmas.Bool.{and_parts}
 use Rattle.hd_base.specs.declared.numbers.NodeId.{NodeId}
 use Rattle.script_lang.specs.Words.{into_first, parts_of, items_of}
 use Rattle.script_lang.specs.Numbers.{value_of, is_member, node, are_distinct, are_members, numbers_of, members_of}
-use Rattle.world.specs.Clients as clients
+use Rattle.play_laws.specs.World.Clients as clients
 
 -- ONE MEMBER AT LEAST
 

@@ -11,7 +11,7 @@ use Rattle.hd_base.specs.declared.numbers.NodeId.{NodeId}
 use Rattle.script_lang.specs.declared.instructions.Instruction.{Instruction}
 use Rattle.script_lang.specs.declared.instructions.Instruction.TheVariants as says
 use Rattle.script_lang.specs.declared.instructions.ScriptLine.{ScriptLine}
-use Rattle.play_model.specs.Lines.{placed, with_block, blocks_of}
+use Rattle.play_laws.specs.PlayModel.Lines.{placed, with_block, blocks_of}
 use Rattle.play_scripts.specs.Blocks.{numbers}
 
 -- ONE BLOCK

@@ -6,13 +6,13 @@ use Rattle.hd_base.specs.declared.numbers.NodeId.{NodeId}
 use Rattle.script_lang.specs.declared.instructions.Instruction.{Instruction}
 use Rattle.script_lang.specs.declared.instructions.Instruction.TheVariants as says
 use Rattle.script_lang.specs.declared.instructions.ScriptLine.{ScriptLine}
-use Rattle.play_model.specs.declared.recoveries.Recovery.{Recovery}
-use Rattle.play_model.specs.declared.dues.Due.{Due}
-use Rattle.play_model.specs.Draws.{happened, advanced, drawn_from, draw, draws, Settles}
-use Rattle.play_model.specs.Dues.{is_due, dues, after_due}
-use Rattle.play_model.specs.Recoveries.{recovery_at, stopped_at}
-use Rattle.play_model.specs.Lines.{stepped, step_due, stopped, stop_at, may_start, start_at, PlaysLine, PlaysLines, PlaysFrom, Plays, blocks_of}
-use Rattle.play_model.specs.States.{PlayState, world_of, opened}
+use Rattle.play_laws.specs.PlayModel.Recovery.{Recovery}
+use Rattle.play_laws.specs.PlayModel.Due.{Due}
+use Rattle.play_laws.specs.PlayModel.Draws.{happened, advanced, drawn_from, draw, draws, Settles}
+use Rattle.play_laws.specs.PlayModel.Dues.{is_due, dues, after_due}
+use Rattle.play_laws.specs.PlayModel.Recoveries.{recovery_at, stopped_at}
+use Rattle.play_laws.specs.PlayModel.Lines.{stepped, step_due, stopped, stop_at, may_start, start_at, PlaysLine, PlaysLines, PlaysFrom, Plays, blocks_of}
+use Rattle.play_laws.specs.PlayModel.States.{PlayState, world_of, opened}
 use Rattle.play_scripts.specs.Recoveries.{is_recovery, recovery_numbers, primaries_of}
 
 -- WHAT HAPPENS BRINGS NO RECOVERY

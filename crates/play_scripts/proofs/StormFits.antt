@@ -11,7 +11,7 @@ use Rattle.script_lang.specs.declared.instructions.ScriptLine.{ScriptLine}
 use Rattle.script_lang.specs.Fits.{Before, after, is_open, is_created, most_bytes, with_stopped}
 use Rattle.script_lang.specs.Grammar.{numbered}
 use Rattle.script_lang.specs.Storms.{Making, says, drawn, advanced, storm_block, block_of_round, storm_node, three_from, all_nodes, writing, cut, fault, restart, recovery, when, cutting, failing, restarting, round, begun as storm_begun, creates, rounds, closes, storm}
-use Rattle.world.specs.Clients.{are_members}
+use Rattle.play_laws.specs.World.Clients.{are_members}
 use Rattle.play_laws.specs.Members.{AreAll, IsNode}
 use Rattle.play_scripts.specs.Fitting.{MembersFit, LineFits, LinesFit, begun}
 use Rattle.play_scripts.specs.Storms.{StormsFit}

@@ -5,8 +5,8 @@ use Rattle.hd_base.specs.declared.numbers.NodeId.{NodeId}
 use Rattle.script_lang.specs.declared.instructions.Instruction.TheVariants as says
 use Rattle.script_lang.specs.declared.instructions.ScriptLine.{ScriptLine}
 use Rattle.script_lang.specs.Fits.{Before}
-use Rattle.world.specs.Safe.{Has}
-use Rattle.play_model.specs.Lines.{blocks_of}
+use Rattle.play_laws.specs.World.Safe.{Has}
+use Rattle.play_laws.specs.PlayModel.Lines.{blocks_of}
 use Rattle.node_opening.specs.Shelves.{AreDistinct}
 use Rattle.play_scripts.specs.Fitting.{LinesFit}
 

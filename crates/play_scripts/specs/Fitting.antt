@@ -10,7 +10,7 @@ use Rattle.script_lang.specs.Fits.{Before, start, fit_rules, after}
 use Rattle.script_lang.specs.Grammar.{EachScript, numbered}
 use Rattle.script_lang.specs.Rules.{AllKept}
 use Rattle.script_lang.specs.Scripts.{most_lines}
-use Rattle.world.specs.Clients.{are_members}
+use Rattle.play_laws.specs.World.Clients.{are_members}
 use Rattle.play_laws.specs.Members.{AreAll, IsNode}
 use Rattle.play_scripts.specs.Numbering.{LinesAscend}
 

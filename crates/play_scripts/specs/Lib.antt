@@ -7,3 +7,12 @@ pub mod Failures
 pub mod Reads
 pub mod Recoveries
 pub mod Storms
+pub mod MemberEvents
+pub mod NodeOpening
+pub mod PlayLaws
+pub mod PlayNodes
+pub mod WorldAcks
+pub mod WorldOrders
+pub mod WorldRequests
+pub mod WorldSettling
+pub mod WorldTexts

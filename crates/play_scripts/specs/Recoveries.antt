@@ -3,9 +3,9 @@ use Rattle.std.specs.Prelude.{◌≡◌, ℕ, if◌then◌else◌, Bool, true, f
 use Rattle.script_lang.specs.declared.instructions.Instruction.{Instruction}
 use Rattle.script_lang.specs.declared.instructions.Instruction.TheVariants as says
 use Rattle.script_lang.specs.declared.instructions.ScriptLine.{ScriptLine}
-use Rattle.play_model.specs.declared.recoveries.Recovery.{Recovery}
-use Rattle.play_model.specs.Lines.{Plays}
-use Rattle.play_model.specs.States.{PlayState}
+use Rattle.play_laws.specs.PlayModel.Recovery.{Recovery}
+use Rattle.play_laws.specs.PlayModel.Lines.{Plays}
+use Rattle.play_laws.specs.PlayModel.States.{PlayState}
 
 -- whether a line recovers
 abbrev pub is_recovery : Instruction → Bool

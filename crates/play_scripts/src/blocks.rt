@@ -1,7 +1,7 @@
 //! The blocks of a script.
 
 ghost use Rattle.std.specs.Prelude.{◌≡◌, nat_lt, position, OnOk, IfOk};
-ghost use Rattle.play_model.specs.Lines.{placed};
+ghost use Rattle.play_laws.specs.PlayModel.Lines.{placed};
 ghost use Rattle.play_scripts.specs.Blocks.{numbers, AreBlocks};
 
 use hd_base::BlockId;

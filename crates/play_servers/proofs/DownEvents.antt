@@ -5,18 +5,18 @@ use Rattle.hd_base.specs.declared.links.LinkIn as link_in
 use Rattle.hd_base.specs.declared.links.LinkOut as link_out
 use Rattle.hd_base.specs.declared.numbers.BlockId.{BlockId}
 use Rattle.hd_base.specs.declared.roads.Roads as roads
-use Rattle.replica_files.specs.declared.book_state.BookState.{BookState}
+use Rattle.recovery_events.specs.ReplicaFiles.BookState.{BookState}
 use Rattle.road_traffic.specs.Showing.{Net}
-use Rattle.world.specs.declared.events.Event.{Event}
-use Rattle.world.specs.declared.events.Event.TheVariants as event
-use Rattle.world.specs.Parts as parts
-use Rattle.world.specs.Parts.{idle, serves, ended_below}
-use Rattle.world.specs.Worlds.{World, apply}
-use Rattle.world.specs.Connections.{Next, next_down, down_taken, is_served}
-use Rattle.world.specs.Enabled.{can_down, can_ready, takes_down, acts_below}
-use Rattle.world.specs.Nodes.{closing}
-use Rattle.world.specs.Events.{outcome, happens}
-use Rattle.world_laws.proofs.FactTables.{and-left, and-right}
+use Rattle.world_requests.specs.World.Event.{Event}
+use Rattle.world_requests.specs.World.Event.TheVariants as event
+use Rattle.world_requests.specs.World.Parts as parts
+use Rattle.world_requests.specs.World.Parts.{idle, serves, ended_below}
+use Rattle.world_requests.specs.World.Worlds.{World, apply}
+use Rattle.world_requests.specs.World.Connections.{Next, next_down, down_taken, is_served}
+use Rattle.world_requests.specs.World.Enabled.{can_down, can_ready, takes_down, acts_below}
+use Rattle.world_requests.specs.World.Nodes.{closing}
+use Rattle.world_requests.specs.World.Events.{outcome, happens}
+use Rattle.world_requests.proofs.WorldLaws.FactTables.{and-left, and-right}
 use Rattle.serving_events.specs.declared.faults.ServeFault.{ServeFault}
 use Rattle.serving_events.specs.declared.faults.ServeFault.TheVariants as fault
 use Rattle.serving_events.specs.declared.steps.ServedRead.{ServedRead}

@@ -10,25 +10,25 @@ use Rattle.hd_base.specs.declared.links.LinkIn as link_in
 use Rattle.hd_base.specs.declared.links.LinkOut as link_out
 use Rattle.hd_base.specs.declared.numbers.BlockId.{BlockId}
 use Rattle.hd_base.specs.declared.roads.Roads as roads
-use Rattle.read_core.specs.declared.serving.ServePhase.{ServePhase}
-use Rattle.read_core.specs.Servings.{ServingState, call_at, next_call}
+use Rattle.serving_events.specs.ReadCore.ServePhase.{ServePhase}
+use Rattle.serving_events.specs.ReadCore.Servings.{ServingState, call_at, next_call}
 use Rattle.road_traffic.specs.Showing.{Net, RoadsShow, ShowsStanding}
-use Rattle.visible_read.specs.declared.answering.Course.{Course}
-use Rattle.visible_read.specs.declared.answering.Course.TheVariants as course
-use Rattle.visible_read.specs.Servings.{is_over}
-use Rattle.visible_read.specs.Sound.{IsSound}
-use Rattle.world.specs.Connections.{Next, next_down, is_served}
-use Rattle.world.specs.Enabled.{takes_down, can_down, acts_below, can_ready}
-use Rattle.world.specs.Parts as parts
-use Rattle.world.specs.Parts.{idle, serves, recovers, ended_below}
-use Rattle.world.specs.Worlds.{World}
-use Rattle.world_nets.specs.Nets.{IsEndOf}
-use Rattle.world_nets.specs.Rows.{rows_of}
+use Rattle.serving_events.specs.VisibleRead.Course.{Course}
+use Rattle.serving_events.specs.VisibleRead.Course.TheVariants as course
+use Rattle.serving_events.specs.VisibleRead.Servings.{is_over}
+use Rattle.serving_events.specs.VisibleRead.Sound.{IsSound}
+use Rattle.world_requests.specs.World.Connections.{Next, next_down, is_served}
+use Rattle.world_requests.specs.World.Enabled.{takes_down, can_down, acts_below, can_ready}
+use Rattle.world_requests.specs.World.Parts as parts
+use Rattle.world_requests.specs.World.Parts.{idle, serves, recovers, ended_below}
+use Rattle.world_requests.specs.World.Worlds.{World}
+use Rattle.world_standings.specs.WorldNets.Nets.{IsEndOf}
+use Rattle.world_standings.specs.WorldNets.Rows.{rows_of}
 use Rattle.world_standings.specs.Standings.{stands}
 use Rattle.world_standings.proofs.StandingLaws.{row_stands}
-use Rattle.world_orders.specs.Open.{OpenEnds, IsOpenBelow}
-use Rattle.member_events.specs.Roads.{RoadsPass}
-use Rattle.member_events.specs.Showing.{ShowsWorld}
+use Rattle.recovery_events.specs.WorldOrders.Open.{OpenEnds, IsOpenBelow}
+use Rattle.recovery_events.specs.MemberEvents.Roads.{RoadsPass}
+use Rattle.recovery_events.specs.MemberEvents.Showing.{ShowsWorld}
 use Rattle.serving_events.specs.declared.steps.ServedRead.{ServedRead}
 use Rattle.serving_events.specs.Showing.{IsAt}
 use Rattle.play_servers.specs.declared.recoveries.AnswerEnd.{AnswerEnd}

@@ -6,3 +6,4 @@ mod DownEvents
 mod PacketEvents
 mod RecoveryEvents
 mod DueLaws
+pub mod WorldNets

@@ -7,21 +7,21 @@ use Rattle.hd_base.specs.declared.links.LinkOut as link_out
 use Rattle.hd_base.specs.declared.numbers.BlockId.{BlockId}
 use Rattle.hd_base.specs.declared.numbers.ConnId.{ConnId}
 use Rattle.hd_base.specs.declared.roads.Roads as roads
-use Rattle.read_core.specs.Servings.{next_call, piece_at}
+use Rattle.serving_events.specs.ReadCore.Servings.{next_call, piece_at}
 use Rattle.replica_core.specs.declared.events.Event.{Event as ReplicaEvent}
-use Rattle.replica_files.specs.declared.book_state.BookState.{BookState}
+use Rattle.recovery_events.specs.ReplicaFiles.BookState.{BookState}
 use Rattle.road_traffic.specs.Showing.{Net}
-use Rattle.world.specs.declared.events.Delivery.TheVariants as delivery
-use Rattle.world.specs.declared.events.Event.{Event}
-use Rattle.world.specs.declared.events.Event.TheVariants as event
-use Rattle.world.specs.Parts as parts
-use Rattle.world.specs.Parts.{idle}
-use Rattle.world.specs.Worlds.{World, Change, apply}
-use Rattle.world.specs.Connections.{is_served}
-use Rattle.world.specs.Enabled.{can_ready, acts_below}
-use Rattle.world.specs.Nodes.{replica_at}
-use Rattle.world.specs.Events.{outcome, happens}
-use Rattle.world_laws.proofs.FactTables.{and-right}
+use Rattle.world_requests.specs.World.Delivery.TheVariants as delivery
+use Rattle.world_requests.specs.World.Event.{Event}
+use Rattle.world_requests.specs.World.Event.TheVariants as event
+use Rattle.world_requests.specs.World.Parts as parts
+use Rattle.world_requests.specs.World.Parts.{idle}
+use Rattle.world_requests.specs.World.Worlds.{World, Change, apply}
+use Rattle.world_requests.specs.World.Connections.{is_served}
+use Rattle.world_requests.specs.World.Enabled.{can_ready, acts_below}
+use Rattle.world_requests.specs.World.Nodes.{replica_at}
+use Rattle.world_requests.specs.World.Events.{outcome, happens}
+use Rattle.world_requests.proofs.WorldLaws.FactTables.{and-right}
 use Rattle.serving_events.specs.declared.faults.ServeFault.{ServeFault}
 use Rattle.serving_events.specs.declared.faults.ServeFault.TheVariants as fault
 use Rattle.serving_events.specs.declared.steps.Outcome.{Outcome}

@@ -9,41 +9,41 @@ use Rattle.hd_base.specs.declared.links.LinkOut as link_out
 use Rattle.hd_base.specs.declared.numbers.BlockId.{BlockId}
 use Rattle.hd_base.specs.declared.numbers.ConnId.{ConnId}
 use Rattle.hd_base.specs.declared.roads.Roads as roads
-use Rattle.link_messages.specs.Incomings.{nothing_received}
+use Rattle.recovery_events.specs.LinkMessages.Incomings.{nothing_received}
 use Rattle.op_headers.specs.declared.ops.Op.{Op}
 use Rattle.op_headers.specs.declared.ops.Op.TheVariants as op
 use Rattle.op_headers.specs.declared.ops.RecoveryOp.{RecoveryOp}
-use Rattle.recovery_core.specs.declared.members.RecoveryReply.{RecoveryReply}
-use Rattle.recovery_core.specs.Members.{recovery_event}
+use Rattle.recovery_events.specs.RecoveryCore.RecoveryReply.{RecoveryReply}
+use Rattle.recovery_events.specs.RecoveryCore.Members.{recovery_event}
 use Rattle.replica_core.specs.declared.events.Event.{Event as ReplicaEvent}
-use Rattle.replica_files.specs.declared.book_state.BookState.{BookState}
+use Rattle.recovery_events.specs.ReplicaFiles.BookState.{BookState}
 use Rattle.road_traffic.specs.Showing.{Net}
-use Rattle.world.specs.declared.events.Delivery.TheVariants as delivery
-use Rattle.world.specs.declared.events.Event.{Event}
-use Rattle.world.specs.declared.events.Event.TheVariants as event
-use Rattle.world.specs.Parts as parts
-use Rattle.world.specs.Parts.{Message, request, packet, ack, response, read_status, recovery_answer, Dialled, idle, recovers, ended_below}
-use Rattle.world.specs.Worlds.{World, apply}
-use Rattle.world.specs.Connections.{Next, message, the_end, next_down, down_taken, is_served}
-use Rattle.world.specs.Enabled.{can_down, takes_down}
-use Rattle.world.specs.Nodes.{replica_at, closing}
-use Rattle.world.specs.Events.{outcome, happens}
-use Rattle.world_laws.proofs.FactTables.{and-left, and-right}
-use Rattle.world_orders.specs.Orders.{Ordered, IsBelow, Purpose, purpose_of, recovering, comes_down, is_recovery}
-use Rattle.world_orders.specs.Takes.{TakesInOrder}
-use Rattle.world_orders.proofs.AllOrdered.{next-found}
+use Rattle.world_requests.specs.World.Delivery.TheVariants as delivery
+use Rattle.world_requests.specs.World.Event.{Event}
+use Rattle.world_requests.specs.World.Event.TheVariants as event
+use Rattle.world_requests.specs.World.Parts as parts
+use Rattle.world_requests.specs.World.Parts.{Message, request, packet, ack, response, read_status, recovery_answer, Dialled, idle, recovers, ended_below}
+use Rattle.world_requests.specs.World.Worlds.{World, apply}
+use Rattle.world_requests.specs.World.Connections.{Next, message, the_end, next_down, down_taken, is_served}
+use Rattle.world_requests.specs.World.Enabled.{can_down, takes_down}
+use Rattle.world_requests.specs.World.Nodes.{replica_at, closing}
+use Rattle.world_requests.specs.World.Events.{outcome, happens}
+use Rattle.world_requests.proofs.WorldLaws.FactTables.{and-left, and-right}
+use Rattle.recovery_events.specs.WorldOrders.Orders.{Ordered, IsBelow, Purpose, purpose_of, recovering, comes_down, is_recovery}
+use Rattle.recovery_events.specs.WorldOrders.Takes.{TakesInOrder}
+use Rattle.recovery_events.proofs.WorldOrders.AllOrdered.{next-found}
 use Rattle.world_requests.specs.Requests.{IsAmong}
-use Rattle.world_texts.specs.Texts.{SpellsText, Written}
-use Rattle.world_nets.specs.Drawn.{ComesDown, IsNoRequest}
-use Rattle.world_nets.specs.Nets.{IsEndOf}
-use Rattle.world_nets.proofs.DrawnLemmas.{down-makes}
-use Rattle.member_events.specs.declared.beginning.FirstRequest.{FirstRequest}
-use Rattle.member_events.specs.declared.faults.MemberFault.{MemberFault}
-use Rattle.member_events.specs.declared.faults.MemberFault.TheVariants as member_fault
-use Rattle.member_events.specs.Beginning as first
-use Rattle.member_events.specs.Beginning.{IdleStands, IsFirstRequest, CanTakeFirst, HasFirst, FirstShows, IsEndFault}
-use Rattle.member_events.specs.Showing.{OthersStay}
-use Rattle.member_events.proofs.FaultEvents.{rises_from}
+use Rattle.recovery_events.specs.WorldTexts.Texts.{SpellsText, Written}
+use Rattle.world_standings.specs.WorldNets.Drawn.{ComesDown, IsNoRequest}
+use Rattle.world_standings.specs.WorldNets.Nets.{IsEndOf}
+use Rattle.world_standings.proofs.WorldNets.DrawnLemmas.{down-makes}
+use Rattle.recovery_events.specs.MemberEvents.FirstRequest.{FirstRequest}
+use Rattle.recovery_events.specs.MemberEvents.MemberFault.{MemberFault}
+use Rattle.recovery_events.specs.MemberEvents.MemberFault.TheVariants as member_fault
+use Rattle.recovery_events.specs.MemberEvents.Beginning as first
+use Rattle.recovery_events.specs.MemberEvents.Beginning.{IdleStands, IsFirstRequest, CanTakeFirst, HasFirst, FirstShows, IsEndFault}
+use Rattle.recovery_events.specs.MemberEvents.Showing.{OthersStay}
+use Rattle.recovery_events.proofs.MemberEvents.FaultEvents.{rises_from}
 use Rattle.recovery_events.specs.declared.answering.Outcome.{Outcome}
 use Rattle.recovery_events.specs.declared.answering.Outcome.TheVariants as ended
 use Rattle.recovery_events.specs.declared.answering.Recovering.{Recovering}

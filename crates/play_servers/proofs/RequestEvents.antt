@@ -13,34 +13,34 @@ use Rattle.hd_base.specs.declared.roads.Roads as roads
 use Rattle.op_headers.specs.declared.ops.Op.{Op}
 use Rattle.op_headers.specs.declared.ops.Op.TheVariants as op
 use Rattle.op_headers.specs.declared.ops.ReadOp.{ReadOp}
-use Rattle.read_core.specs.Servings.{read_at, read_event}
+use Rattle.serving_events.specs.ReadCore.Servings.{read_at, read_event}
 use Rattle.replica_core.specs.declared.events.Event.{Event as ReplicaEvent}
-use Rattle.replica_files.specs.declared.book_state.BookState.{BookState}
+use Rattle.recovery_events.specs.ReplicaFiles.BookState.{BookState}
 use Rattle.request_refusals.specs.declared.refusals.RequestRefusal.{RequestRefusal}
 use Rattle.road_traffic.specs.Showing.{Net}
-use Rattle.world.specs.declared.events.Delivery.TheVariants as delivery
-use Rattle.world.specs.declared.events.Event.{Event}
-use Rattle.world.specs.declared.events.Event.TheVariants as event
-use Rattle.world.specs.Parts as parts
-use Rattle.world.specs.Parts.{Message, request, packet, ack, response, read_status, recovery_answer, idle, ended_below}
-use Rattle.world.specs.Worlds.{World, Change, apply}
-use Rattle.world.specs.Connections.{Next, message, the_end, next_down, down_taken, is_served}
-use Rattle.world.specs.Enabled.{can_down, takes_down}
-use Rattle.world.specs.Nodes.{replica_at, lower_down, failing_read, closing}
-use Rattle.world.specs.Events.{outcome, changed, down_as, down_event, happens, after_event}
-use Rattle.world_laws.proofs.FactTables.{and-left, and-right}
-use Rattle.world_orders.specs.Orders.{Purpose, purpose_of, reading, comes_down, is_read}
-use Rattle.world_orders.specs.Takes.{TakesInOrder}
-use Rattle.world_orders.proofs.AllOrdered.{next-found}
+use Rattle.world_requests.specs.World.Delivery.TheVariants as delivery
+use Rattle.world_requests.specs.World.Event.{Event}
+use Rattle.world_requests.specs.World.Event.TheVariants as event
+use Rattle.world_requests.specs.World.Parts as parts
+use Rattle.world_requests.specs.World.Parts.{Message, request, packet, ack, response, read_status, recovery_answer, idle, ended_below}
+use Rattle.world_requests.specs.World.Worlds.{World, Change, apply}
+use Rattle.world_requests.specs.World.Connections.{Next, message, the_end, next_down, down_taken, is_served}
+use Rattle.world_requests.specs.World.Enabled.{can_down, takes_down}
+use Rattle.world_requests.specs.World.Nodes.{replica_at, lower_down, failing_read, closing}
+use Rattle.world_requests.specs.World.Events.{outcome, changed, down_as, down_event, happens, after_event}
+use Rattle.world_requests.proofs.WorldLaws.FactTables.{and-left, and-right}
+use Rattle.recovery_events.specs.WorldOrders.Orders.{Purpose, purpose_of, reading, comes_down, is_read}
+use Rattle.recovery_events.specs.WorldOrders.Takes.{TakesInOrder}
+use Rattle.recovery_events.proofs.WorldOrders.AllOrdered.{next-found}
 use Rattle.world_requests.specs.Requests.{IsAmong}
-use Rattle.world_texts.specs.Texts.{SpellsText, Written}
-use Rattle.world_nets.specs.Drawn.{ComesDown, IsNoRequest}
-use Rattle.world_nets.proofs.DrawnLemmas.{down-makes}
-use Rattle.member_events.specs.declared.beginning.FirstRequest.{FirstRequest}
-use Rattle.member_events.specs.declared.faults.MemberFault.{MemberFault}
-use Rattle.member_events.specs.declared.faults.MemberFault.TheVariants as member_fault
-use Rattle.member_events.specs.Beginning as first
-use Rattle.member_events.specs.Beginning.{IdleStands, IsFirstRequest, CanTakeFirst, HasFirst, FirstShows, IsEndFault}
+use Rattle.recovery_events.specs.WorldTexts.Texts.{SpellsText, Written}
+use Rattle.world_standings.specs.WorldNets.Drawn.{ComesDown, IsNoRequest}
+use Rattle.world_standings.proofs.WorldNets.DrawnLemmas.{down-makes}
+use Rattle.recovery_events.specs.MemberEvents.FirstRequest.{FirstRequest}
+use Rattle.recovery_events.specs.MemberEvents.MemberFault.{MemberFault}
+use Rattle.recovery_events.specs.MemberEvents.MemberFault.TheVariants as member_fault
+use Rattle.recovery_events.specs.MemberEvents.Beginning as first
+use Rattle.recovery_events.specs.MemberEvents.Beginning.{IdleStands, IsFirstRequest, CanTakeFirst, HasFirst, FirstShows, IsEndFault}
 use Rattle.serving_events.specs.declared.faults.ServeFault.{ServeFault}
 use Rattle.serving_events.specs.declared.faults.ServeFault.TheVariants as fault
 use Rattle.serving_events.specs.declared.steps.Outcome.{Outcome}
@@ -50,7 +50,7 @@ use Rattle.serving_events.specs.Faults.{IsCausedInRequest}
 use Rattle.serving_events.specs.Requests.{RequestStands, CanServe, RequestEnds}
 use Rattle.serving_events.specs.Showing.{HasEnded}
 use Rattle.serving_events.proofs.DrawnLaws.{request_makes}
-use Rattle.member_events.proofs.FaultEvents.{rises_from}
+use Rattle.recovery_events.proofs.MemberEvents.FaultEvents.{rises_from}
 use Rattle.play_servers.specs.declared.servers.Left.{Left}
 use Rattle.play_servers.specs.declared.servers.ReadEnd.TheVariants as read_end
 use Rattle.play_servers.specs.Places.{place_of, ended_left, left_by, read_fault, IsServed, Serves}

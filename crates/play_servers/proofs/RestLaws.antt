@@ -3,19 +3,19 @@ use Rattle.std.proofs.Common.{◌≡◌, ◌⊎◌, inl, inr, ℕ, ◌-◌, Bool
 use Rattle.std.specs.Prelude.{nat_le, unwrap_or}
 use Rattle.op_headers.specs.declared.ops.RecoveryOp.{RecoveryOp}
 use Rattle.packet_codec.specs.declared.packets.Packet.{Packet}
-use Rattle.read_core.specs.Servings.{ServingState, Piece}
-use Rattle.recovery_core.specs.Members.{Served}
-use Rattle.replica_model.specs.declared.events.ReplicaEvent.{ReplicaEvent}
-use Rattle.replica_model.specs.Rows.{FullReplica}
+use Rattle.serving_events.specs.ReadCore.Servings.{ServingState, Piece}
+use Rattle.recovery_events.specs.RecoveryCore.Members.{Served}
+use Rattle.serving_events.specs.ReplicaModel.ReplicaEvent.{ReplicaEvent}
+use Rattle.serving_events.specs.ReplicaModel.Rows.{FullReplica}
 use Rattle.request_refusals.specs.declared.refusals.RequestRefusal.{RequestRefusal}
-use Rattle.world.specs.declared.events.Event.{Event}
-use Rattle.world.specs.Parts.{Message, Dialled, Break}
-use Rattle.world.specs.Worlds.{World, Change, Dial, put_at, dial_at, listed, downs_with, apply}
-use Rattle.world.specs.Connections.{Next, down_taken}
-use Rattle.world.specs.Nodes.{node_of, closing, breaking, read_change, piece_as, piece_change, recovery_change}
-use Rattle.world.specs.Events.{outcome, happens}
-use Rattle.world_laws.proofs.StampGivens.{put-there}
-use Rattle.member_events.proofs.WorldLaws.{happened}
+use Rattle.world_requests.specs.World.Event.{Event}
+use Rattle.world_requests.specs.World.Parts.{Message, Dialled, Break}
+use Rattle.world_requests.specs.World.Worlds.{World, Change, Dial, put_at, dial_at, listed, downs_with, apply}
+use Rattle.world_requests.specs.World.Connections.{Next, down_taken}
+use Rattle.world_requests.specs.World.Nodes.{node_of, closing, breaking, read_change, piece_as, piece_change, recovery_change}
+use Rattle.world_requests.specs.World.Events.{outcome, happens}
+use Rattle.world_requests.proofs.WorldLaws.StampGivens.{put-there}
+use Rattle.recovery_events.proofs.MemberEvents.WorldLaws.{happened}
 use Rattle.recovery_events.specs.Drawn.{asked_block}
 use Rattle.play_servers.specs.Events.{RestStays}
 use Rattle.play_servers.proofs.TableLaws.{put_at_same, put_at_there}

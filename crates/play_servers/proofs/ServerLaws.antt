@@ -4,18 +4,18 @@ use Rattle.hd_base.specs.declared.ends.Conn.{Conn}
 use Rattle.hd_base.specs.declared.links.LinkIn as link_in
 use Rattle.hd_base.specs.declared.links.LinkOut as link_out
 use Rattle.hd_base.specs.declared.numbers.BlockId.{BlockId}
-use Rattle.read_core.specs.Servings.{ServingState}
-use Rattle.replica_files.specs.declared.book_state.BookState.{BookState}
-use Rattle.replica_files.specs.Books.{replica_of}
+use Rattle.serving_events.specs.ReadCore.Servings.{ServingState}
+use Rattle.recovery_events.specs.ReplicaFiles.BookState.{BookState}
+use Rattle.recovery_events.specs.ReplicaFiles.Books.{replica_of}
 use Rattle.road_traffic.specs.Showing.{Net}
-use Rattle.world.specs.Parts as parts
-use Rattle.world.specs.Parts.{Dialled, idle, serves, ended_below}
-use Rattle.world.specs.Worlds.{World}
-use Rattle.world.specs.Connections.{is_served}
-use Rattle.world.specs.Nodes.{node_of, replica_at}
-use Rattle.world_nets.specs.Nets.{IsEndOf}
-use Rattle.world_orders.specs.Orders.{purpose_of, reading}
-use Rattle.member_events.specs.Showing.{OthersStay}
+use Rattle.world_requests.specs.World.Parts as parts
+use Rattle.world_requests.specs.World.Parts.{Dialled, idle, serves, ended_below}
+use Rattle.world_requests.specs.World.Worlds.{World}
+use Rattle.world_requests.specs.World.Connections.{is_served}
+use Rattle.world_requests.specs.World.Nodes.{node_of, replica_at}
+use Rattle.world_standings.specs.WorldNets.Nets.{IsEndOf}
+use Rattle.recovery_events.specs.WorldOrders.Orders.{purpose_of, reading}
+use Rattle.recovery_events.specs.MemberEvents.Showing.{OthersStay}
 use Rattle.serving_events.specs.declared.steps.ServedRead.{ServedRead}
 use Rattle.serving_events.specs.Showing.{ReadShows}
 use Rattle.play_servers.specs.declared.servers.ReadEnd.{ReadEnd}

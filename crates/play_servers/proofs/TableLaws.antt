@@ -5,8 +5,8 @@ use Rattle.std.specs.List.{position_or_len}
 use Rattle.std.proofs.lemmas.Bool.Decides.{nat_tests}
 use Rattle.std.proofs.lemmas.List.Quantifiers.{position-Some}
 use Rattle.std.proofs.lemmas.Option.{slice_get-get_or}
-use Rattle.world.specs.Worlds.{put_at}
-use Rattle.world_laws.proofs.FactTables.{if-each, and-left, and-right}
+use Rattle.world_requests.specs.World.Worlds.{put_at}
+use Rattle.world_requests.proofs.WorldLaws.FactTables.{if-each, and-left, and-right}
 
 -- LISTS
 

@@ -8,13 +8,13 @@ use Rattle.hd_base.specs.declared.links.LinkOut as link_out
 use Rattle.hd_base.specs.declared.numbers.BlockId.{BlockId}
 use Rattle.hd_base.specs.declared.numbers.ConnId.{ConnId}
 use Rattle.hd_base.specs.declared.roads.Roads as roads
-use Rattle.link_messages.specs.Incomings.{nothing_received}
+use Rattle.recovery_events.specs.LinkMessages.Incomings.{nothing_received}
 use Rattle.op_headers.specs.declared.ops.Op.TheVariants as op
 use Rattle.op_headers.specs.declared.ops.RecoveryOp.{RecoveryOp}
-use Rattle.replica_files.specs.declared.book_state.BookState.{BookState}
-use Rattle.member_events.specs.declared.beginning.FirstRequest.{FirstRequest}
-use Rattle.member_events.specs.declared.faults.MemberFault.{MemberFault}
-use Rattle.member_events.specs.declared.faults.MemberFault.TheVariants as member_fault
+use Rattle.recovery_events.specs.ReplicaFiles.BookState.{BookState}
+use Rattle.recovery_events.specs.MemberEvents.FirstRequest.{FirstRequest}
+use Rattle.recovery_events.specs.MemberEvents.MemberFault.{MemberFault}
+use Rattle.recovery_events.specs.MemberEvents.MemberFault.TheVariants as member_fault
 use Rattle.recovery_events.specs.declared.answering.Outcome.{Outcome}
 use Rattle.recovery_events.specs.declared.answering.Outcome.TheVariants as ended
 use Rattle.recovery_events.specs.declared.answering.Recovering.{Recovering}

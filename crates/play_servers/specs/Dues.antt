@@ -6,10 +6,10 @@ use Rattle.hd_base.specs.declared.links.LinkOut as link_out
 use Rattle.hd_base.specs.declared.numbers.BlockId.{BlockId}
 use Rattle.hd_base.specs.declared.roads.Roads as roads
 use Rattle.road_traffic.specs.Showing.{Net}
-use Rattle.world.specs.Enabled.{can_down, can_ready}
-use Rattle.world.specs.Worlds.{World}
-use Rattle.world_orders.specs.Open.{OpenEnds}
-use Rattle.member_events.specs.Showing.{ShowsWorld}
+use Rattle.world_requests.specs.World.Enabled.{can_down, can_ready}
+use Rattle.world_requests.specs.World.Worlds.{World}
+use Rattle.recovery_events.specs.WorldOrders.Open.{OpenEnds}
+use Rattle.recovery_events.specs.MemberEvents.Showing.{ShowsWorld}
 use Rattle.play_servers.specs.declared.recoveries.AnswerEnd.{AnswerEnd}
 use Rattle.play_servers.specs.declared.recoveries.RecoveryServer.{RecoveryServer}
 use Rattle.play_servers.specs.declared.servers.ReadServer.{ReadServer}

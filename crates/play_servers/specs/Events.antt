@@ -8,19 +8,19 @@ use Rattle.hd_base.specs.declared.links.LinkOut as link_out
 use Rattle.hd_base.specs.declared.numbers.BlockId.{BlockId}
 use Rattle.hd_base.specs.declared.numbers.ConnId.{ConnId}
 use Rattle.hd_base.specs.declared.roads.Roads as roads
-use Rattle.replica_files.specs.declared.book_state.BookState.{BookState}
+use Rattle.recovery_events.specs.ReplicaFiles.BookState.{BookState}
 use Rattle.road_traffic.specs.Showing.{Net}
-use Rattle.world.specs.declared.events.Delivery.{Delivery}
-use Rattle.world.specs.declared.events.Delivery.TheVariants as delivery
-use Rattle.world.specs.declared.events.Event.{Event}
-use Rattle.world.specs.declared.events.Event.TheVariants as event
-use Rattle.world.specs.Worlds.{World}
-use Rattle.world.specs.Nodes.{node_of}
-use Rattle.world.specs.Enabled.{can_down, can_ready}
-use Rattle.world.specs.Events.{happens}
-use Rattle.world_orders.specs.Takes.{TakesInOrder}
-use Rattle.world_texts.specs.Texts.{Written}
-use Rattle.member_events.specs.Showing.{ShowsWorld, OthersStay}
+use Rattle.world_requests.specs.World.Delivery.{Delivery}
+use Rattle.world_requests.specs.World.Delivery.TheVariants as delivery
+use Rattle.world_requests.specs.World.Event.{Event}
+use Rattle.world_requests.specs.World.Event.TheVariants as event
+use Rattle.world_requests.specs.World.Worlds.{World}
+use Rattle.world_requests.specs.World.Nodes.{node_of}
+use Rattle.world_requests.specs.World.Enabled.{can_down, can_ready}
+use Rattle.world_requests.specs.World.Events.{happens}
+use Rattle.recovery_events.specs.WorldOrders.Takes.{TakesInOrder}
+use Rattle.recovery_events.specs.WorldTexts.Texts.{Written}
+use Rattle.recovery_events.specs.MemberEvents.Showing.{ShowsWorld, OthersStay}
 use Rattle.serving_events.specs.declared.faults.ServeFault.{ServeFault}
 use Rattle.serving_events.specs.declared.faults.ServeFault.TheVariants as fault
 use Rattle.play_servers.specs.declared.servers.Left.{Left}

@@ -5,3 +5,6 @@ pub mod Events
 pub mod Answering
 pub mod Recoveries
 pub mod Dues
+pub mod RecoveryEvents
+pub mod ServingEvents
+pub mod WorldNets

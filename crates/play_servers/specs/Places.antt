@@ -7,10 +7,10 @@ use Rattle.hd_base.specs.declared.numbers.BlockId.{BlockId}
 use Rattle.hd_base.specs.declared.roads.Roads as roads
 use Rattle.op_headers.specs.declared.ops.Op.TheVariants as op
 use Rattle.op_headers.specs.declared.ops.ReadOp.{ReadOp}
-use Rattle.replica_files.specs.declared.book_state.BookState.{BookState}
-use Rattle.member_events.specs.declared.beginning.FirstRequest.{FirstRequest}
-use Rattle.member_events.specs.declared.faults.MemberFault.{MemberFault}
-use Rattle.member_events.specs.declared.faults.MemberFault.TheVariants as member_fault
+use Rattle.recovery_events.specs.ReplicaFiles.BookState.{BookState}
+use Rattle.recovery_events.specs.MemberEvents.FirstRequest.{FirstRequest}
+use Rattle.recovery_events.specs.MemberEvents.MemberFault.{MemberFault}
+use Rattle.recovery_events.specs.MemberEvents.MemberFault.TheVariants as member_fault
 use Rattle.serving_events.specs.declared.faults.ServeFault.{ServeFault}
 use Rattle.serving_events.specs.declared.faults.ServeFault.TheVariants as fault
 use Rattle.serving_events.specs.declared.steps.Outcome.{Outcome}

@@ -7,22 +7,22 @@ use Rattle.hd_base.specs.declared.links.LinkOut as link_out
 use Rattle.hd_base.specs.declared.numbers.BlockId.{BlockId}
 use Rattle.hd_base.specs.declared.numbers.ConnId.{ConnId}
 use Rattle.hd_base.specs.declared.roads.Roads as roads
-use Rattle.link_messages.specs.Incomings.{nothing_received}
+use Rattle.recovery_events.specs.LinkMessages.Incomings.{nothing_received}
 use Rattle.op_headers.specs.declared.ops.Op.TheVariants as op
 use Rattle.op_headers.specs.declared.ops.RecoveryOp.{RecoveryOp}
-use Rattle.replica_files.specs.declared.book_state.BookState.{BookState}
+use Rattle.recovery_events.specs.ReplicaFiles.BookState.{BookState}
 use Rattle.road_traffic.specs.Showing.{Net}
-use Rattle.world.specs.declared.events.Delivery.TheVariants as delivery
-use Rattle.world.specs.declared.events.Event.TheVariants as event
-use Rattle.world.specs.Parts.{request, Lower, idle, recovers, ended_below}
-use Rattle.world.specs.Worlds.{World}
-use Rattle.world.specs.Connections.{is_served}
-use Rattle.world.specs.Enabled.{can_down}
-use Rattle.world.specs.Events.{happens}
-use Rattle.world_nets.specs.Nets.{IsEndOf}
-use Rattle.world_orders.specs.Orders.{Ordered, purpose_of, recovering}
+use Rattle.world_requests.specs.World.Delivery.TheVariants as delivery
+use Rattle.world_requests.specs.World.Event.TheVariants as event
+use Rattle.world_requests.specs.World.Parts.{request, Lower, idle, recovers, ended_below}
+use Rattle.world_requests.specs.World.Worlds.{World}
+use Rattle.world_requests.specs.World.Connections.{is_served}
+use Rattle.world_requests.specs.World.Enabled.{can_down}
+use Rattle.world_requests.specs.World.Events.{happens}
+use Rattle.world_standings.specs.WorldNets.Nets.{IsEndOf}
+use Rattle.recovery_events.specs.WorldOrders.Orders.{Ordered, purpose_of, recovering}
 use Rattle.world_requests.specs.Requests.{IsAmong}
-use Rattle.member_events.specs.Showing.{ShowsWorld, OthersStay}
+use Rattle.recovery_events.specs.MemberEvents.Showing.{ShowsWorld, OthersStay}
 use Rattle.recovery_events.specs.declared.answering.Recovering.{Recovering}
 use Rattle.recovery_events.specs.declared.faults.RecoveryFault.{RecoveryFault}
 use Rattle.recovery_events.specs.Drawn.{asked_block}

@@ -6,18 +6,18 @@ use Rattle.hd_base.specs.declared.numbers.BlockId.{BlockId}
 use Rattle.hd_base.specs.declared.roads.Roads as roads
 use Rattle.op_headers.specs.declared.ops.Op.TheVariants as op
 use Rattle.op_headers.specs.declared.ops.ReadOp.{ReadOp}
-use Rattle.read_core.specs.Servings.{ServingState}
-use Rattle.replica_files.specs.declared.book_state.BookState.{BookState}
-use Rattle.replica_files.specs.Books.{replica_of}
+use Rattle.serving_events.specs.ReadCore.Servings.{ServingState}
+use Rattle.recovery_events.specs.ReplicaFiles.BookState.{BookState}
+use Rattle.recovery_events.specs.ReplicaFiles.Books.{replica_of}
 use Rattle.road_traffic.specs.Showing.{Net}
-use Rattle.world.specs.Parts.{request, Lower, idle, serves, ended_below}
-use Rattle.world.specs.Worlds.{World}
-use Rattle.world.specs.Connections.{is_served}
-use Rattle.world.specs.Nodes.{replica_at}
-use Rattle.world_nets.specs.Nets.{IsEndOf}
-use Rattle.world_orders.specs.Orders.{purpose_of, reading}
+use Rattle.world_requests.specs.World.Parts.{request, Lower, idle, serves, ended_below}
+use Rattle.world_requests.specs.World.Worlds.{World}
+use Rattle.world_requests.specs.World.Connections.{is_served}
+use Rattle.world_requests.specs.World.Nodes.{replica_at}
+use Rattle.world_standings.specs.WorldNets.Nets.{IsEndOf}
+use Rattle.recovery_events.specs.WorldOrders.Orders.{purpose_of, reading}
 use Rattle.world_requests.specs.Requests.{IsAmong}
-use Rattle.member_events.specs.Showing.{ShowsWorld}
+use Rattle.recovery_events.specs.MemberEvents.Showing.{ShowsWorld}
 use Rattle.serving_events.specs.declared.steps.ServedRead.{ServedRead}
 use Rattle.serving_events.specs.Drawn.{block_of}
 use Rattle.serving_events.specs.Showing.{ReadShows}

@@ -1,7 +1,7 @@
 //! A lower end of a connection that a reader dialled takes what stands next.
 
 ghost use Rattle.std.specs.Prelude.{IfOk};
-ghost use Rattle.member_events.specs.Roads.{RoadsPass};
+ghost use Rattle.recovery_events.specs.MemberEvents.Roads.{RoadsPass};
 ghost use Rattle.play_servers.specs.Known.{EndIsKnown, LeftIsKnown};
 ghost use Rattle.play_servers.specs.Places.{HasEnded};
 ghost use Rattle.play_servers.specs.Events.{DownShows, EndShowsDown};
@@ -9,7 +9,7 @@ ghost use Rattle.play_servers.specs.Events.{DownShows, EndShowsDown};
 use crate::requests::take_first;
 use crate::servers::{Left, ReadEnd, ReadServer, ServerEvent};
 use hd_base::{BlockId, Files, LinkIn, LinkOut, Roads};
-use replica_files::ReplicaBook;
+use recovery_events::ReplicaBook;
 use serving_events::{ServeFault, serve_down};
 use std::alloc::Global;
 use std::mem;

@@ -1,7 +1,7 @@
 //! What may happen next at the lower ends of the connections that readers and primaries dialled.
 
 ghost use Rattle.std.specs.Prelude.{◌≡◌, is_some};
-ghost use Rattle.member_events.specs.Roads.{RoadsPass};
+ghost use Rattle.recovery_events.specs.MemberEvents.Roads.{RoadsPass};
 ghost use Rattle.play_servers.specs.Answering.{answer_conn};
 ghost use Rattle.play_servers.specs.Dues.{TellsDown, TellsReady, TellsRequest, AnswersWait};
 ghost use Rattle.play_servers.specs.Known.{end_conn};

@@ -12,4 +12,7 @@ mod servers;
 
 pub use dues::answers_wait;
 pub use recoveries::{AnswerEnd, RecoveryServer};
+pub use recovery_events::{RecoveryFault, recoveries_come_in_order, recoveries_name_one_block};
 pub use servers::{ReadEnd, ReadServer, ServerEvent};
+pub use serving_events::ServeFault;
+pub use world_standings::{ends_elsewhere_stay, idle_flushes_are_nets, nets_stay_sane};

@@ -2,14 +2,14 @@
 
 ghost use Rattle.std.specs.Prelude.{IfOk};
 ghost use Rattle.hd_base.specs.Ends.{IsKnown};
-ghost use Rattle.member_events.specs.Roads.{RoadsPass};
+ghost use Rattle.recovery_events.specs.MemberEvents.Roads.{RoadsPass};
 ghost use Rattle.play_servers.specs.Known.{EndIsKnown, LeftIsKnown};
 ghost use Rattle.play_servers.specs.Places.{Sends, IsFollowed, HasEnded, RestsUnlessServing};
 ghost use Rattle.play_servers.specs.Events.{ReadyShows};
 
 use crate::servers::{Left, ReadEnd, ReadServer, ServerEvent};
 use hd_base::{Files, LinkIn, LinkOut, Roads};
-use replica_files::ReplicaBook;
+use recovery_events::ReplicaBook;
 use serving_events::{ServeFault, ServedRead, serve_packet};
 use std::alloc::Global;
 use std::mem;

@@ -2,7 +2,7 @@
 
 ghost use Rattle.std.specs.Prelude.{◌≡◌, IfOk};
 ghost use Rattle.hd_base.specs.Ends.{IsKnown};
-ghost use Rattle.member_events.specs.Roads.{RoadsPass};
+ghost use Rattle.recovery_events.specs.MemberEvents.Roads.{RoadsPass};
 ghost use Rattle.play_servers.specs.Answering.{
   answer_conn,
   AnswerIsKnown,
@@ -19,11 +19,11 @@ ghost use Rattle.play_servers.specs.Recoveries.{IdleShows, EndShowsDown, DownSho
 
 use crate::servers::ServerEvent;
 use hd_base::{BlockId, Conn, ConnId, Files, LinkIn, LinkOut, Roads};
-use link_messages::Incoming;
-use member_events::{FirstRequest, MemberFault, first_request};
 use op_headers::{Op, RecoveryOp};
-use recovery_events::{Outcome, Recovering, RecoveryFault, recover_down, recover_request};
-use replica_files::ReplicaBook;
+use recovery_events::{
+    FirstRequest, Incoming, MemberFault, Outcome, Recovering, RecoveryFault, ReplicaBook,
+    first_request, recover_down, recover_request,
+};
 use std::alloc::Global;
 use std::mem;
 

@@ -2,16 +2,15 @@
 
 ghost use Rattle.std.specs.Prelude.{◌≡◌, IfOk};
 ghost use Rattle.hd_base.specs.Ends.{IsKnown};
-ghost use Rattle.member_events.specs.Roads.{RoadsPass};
+ghost use Rattle.recovery_events.specs.MemberEvents.Roads.{RoadsPass};
 ghost use Rattle.play_servers.specs.Known.{LeftIsKnown};
 ghost use Rattle.play_servers.specs.Places.{Serves, read_fault};
 ghost use Rattle.play_servers.specs.Events.{IdleShows};
 
 use crate::servers::{Left, place_of};
 use hd_base::{BlockId, Conn, Files, LinkIn, LinkOut, Roads};
-use member_events::{FirstRequest, MemberFault, first_request};
 use op_headers::Op;
-use replica_files::ReplicaBook;
+use recovery_events::{FirstRequest, MemberFault, ReplicaBook, first_request};
 use serving_events::{ServeFault, serve_request};
 use std::alloc::Global;
 

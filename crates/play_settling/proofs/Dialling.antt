@@ -42,9 +42,9 @@ use Rattle.world.specs.Primaries.{own_recover, own_primary, primary_up, writer_a
 use Rattle.world.specs.Restarts.{restart}
 use Rattle.world.specs.Enabled.{is_deed, is_question}
 use Rattle.world.specs.Events.{changed, own_change, down_as, down_event, ready_event, unless_fails, upper_up, up_as, up_event, fault_event, lost, stop, where_so, outcome, after_event, happens, run}
-use Rattle.world_laws.proofs.FactTables.{put-each, when-each, and-right}
-use Rattle.world_laws.proofs.SessionAsides.{Aside, lower-down-aside, lower-ready-aside, mirror-up-aside, own-reader-aside, reader-up-aside, own-recover-aside, own-primary-aside, primary-up-aside}
-use Rattle.world_texts.proofs.Clients.{none-told}
+use Rattle.play_model.proofs.WorldLaws.FactTables.{put-each, when-each, and-right}
+use Rattle.play_model.proofs.WorldLaws.SessionAsides.{Aside, lower-down-aside, lower-ready-aside, mirror-up-aside, own-reader-aside, reader-up-aside, own-recover-aside, own-primary-aside, primary-up-aside}
+use Rattle.world_settling.proofs.WorldTexts.Clients.{none-told}
 use Rattle.play_settling.specs.Settling.{ActOrAsk}
 use Rattle.play_settling.proofs.Steps.{dials, Undialled, never, is_plain, own-plain, step-phase, hears-undialled, dialled-phase}
 

@@ -30,11 +30,11 @@ use Rattle.world.specs.Connections.{next_up}
 use Rattle.world.specs.Enabled.{acts_with, is_deed, is_question, can_down, can_ready, takes_above, can_up}
 use Rattle.world.specs.Events.{changed, outcome, after_event, is_enabled, happens, run}
 use Rattle.world.specs.Safe.{Has}
-use Rattle.world_laws.proofs.FactTables.{and-right}
-use Rattle.world_laws.proofs.RunLaws.{idle-stays, runs-join}
-use Rattle.world_laws.proofs.StampGivens.{put-here, put-there}
-use Rattle.world_laws.proofs.TestLaws.{all-tested}
-use Rattle.world_texts.specs.Texts.{AllFit}
+use Rattle.play_model.proofs.WorldLaws.FactTables.{and-right}
+use Rattle.play_model.proofs.WorldLaws.RunLaws.{idle-stays, runs-join}
+use Rattle.play_model.proofs.WorldLaws.StampGivens.{put-here, put-there}
+use Rattle.play_model.proofs.WorldLaws.TestLaws.{all-tested}
+use Rattle.world_settling.specs.WorldTexts.Texts.{AllFit}
 use Rattle.world_settling.specs.Leading.{read_weight, recovery_weight, primary_weight, LowersLeading, told_world}
 use Rattle.world_settling.specs.Draws.{actor_of, actor_above, is_writer, is_primary}
 use Rattle.world_settling.specs.Measure.{command_weight, given_weight, writer_weight, LowersBoth, answered_world}

@@ -19,7 +19,7 @@ use Rattle.world.specs.Events.{changed, outcome, after_event, upper_up, up_as, u
 use Rattle.world.specs.Parts.{Place, Told, Leading, Primary, no_primary, was_told, leads, has_led, Upper, by_writer, by_member, by_reader, by_primary}
 use Rattle.world.specs.Primaries.{begins_as, begins_at, own_recover, leads_step, commits_step, leads_told, own_primary_as, own_primary, listens, hears_change, primary_up_as, primary_up, primary_commits, primary_asks}
 use Rattle.world.specs.Worlds.{World, Change, apply}
-use Rattle.world_laws.proofs.FactTables.{put-each, when-each, if-each}
+use Rattle.play_model.proofs.WorldLaws.FactTables.{put-each, when-each, if-each}
 use Rattle.world_settling.specs.Draws.{actor_of, actor_above, is_primary}
 use Rattle.world_settling.proofs.Actors.{primaries-stay}
 

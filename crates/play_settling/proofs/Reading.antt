@@ -4,15 +4,15 @@ use Rattle.std.specs.Prelude.{◌&&◌, sum_by}
 use Rattle.std.proofs.lemmas.Option.{none-some, same_Some}
 use Rattle.std.proofs.lemmas.List.Sums.{sum_by-cons}
 use Rattle.op_headers.specs.declared.ops.ReadOp.{ReadOp}
-use Rattle.read_core.specs.declared.reading.ReadFault.TheVariants as read_fault
-use Rattle.read_core.specs.Readings.{asked}
+use Rattle.world.specs.ReadCore.ReadFault.TheVariants as read_fault
+use Rattle.world.specs.ReadCore.Readings.{asked}
 use Rattle.world.specs.declared.events.Event.{Event}
 use Rattle.world.specs.Parts.{Reader, no_reader, reads, has_read}
 use Rattle.world.specs.Worlds.{World, apply}
 use Rattle.world.specs.Clients.{reader_dials, own_reader_as}
 use Rattle.world.specs.Events.{changed, outcome, after_event, happens, run}
 use Rattle.world.specs.Safe.{Has}
-use Rattle.world_laws.proofs.StampGivens.{put-here}
+use Rattle.play_model.proofs.WorldLaws.StampGivens.{put-here}
 use Rattle.world_settling.specs.Leading.{read_weight}
 use Rattle.world_settling.specs.Traffic.{traffic}
 use Rattle.world_settling.proofs.Actors.{writers-stay}

@@ -11,8 +11,8 @@ use Rattle.world.specs.Nodes.{lower_down, lower_ready}
 use Rattle.world.specs.Clients.{reader_up}
 use Rattle.world.specs.Primaries.{primary_up}
 use Rattle.world.specs.Events.{changed, down_as, down_event, ready_event, unless_fails, upper_up, up_as, up_event, outcome, after_event, happens}
-use Rattle.world_laws.proofs.FactTables.{put-each, when-each}
-use Rattle.world_laws.proofs.SessionAsides.{Aside, lower-down-aside, lower-ready-aside, mirror-up-aside, reader-up-aside, primary-up-aside}
+use Rattle.play_model.proofs.WorldLaws.FactTables.{put-each, when-each}
+use Rattle.play_model.proofs.WorldLaws.SessionAsides.{Aside, lower-down-aside, lower-ready-aside, mirror-up-aside, reader-up-aside, primary-up-aside}
 
 abbrev pub Stays : World → World → Type 0
 Stays w v = (a : ℕ) → v.writers a ≡ w.writers a

@@ -13,7 +13,7 @@ use Rattle.world.specs.Parts.{Upper, by_writer, Primary, no_primary}
 use Rattle.world.specs.Worlds.{World, start}
 use Rattle.world.specs.Events.{run}
 use Rattle.world.specs.Safe.{Has}
-use Rattle.world_texts.specs.Texts.{AllFit}
+use Rattle.world_settling.specs.WorldTexts.Texts.{AllFit}
 use Rattle.world_settling.specs.Leading.{read_weight, recovery_weight, primary_weight}
 use Rattle.world_settling.specs.Measure.{command_weight, writer_weight}
 use Rattle.world_settling.specs.Traffic.{traffic}

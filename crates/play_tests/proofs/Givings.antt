@@ -16,34 +16,34 @@ use Rattle.writer_core.specs.declared.intake.Intake.{Intake}
 use Rattle.writer_core.specs.Commands.{intake_after, admitted}
 use Rattle.world.specs.declared.events.TakenCommand.{TakenCommand}
 use Rattle.world.specs.Worlds.{start}
-use Rattle.node_opening.specs.Shelves.{AreDistinct}
+use Rattle.play_lines.specs.NodeOpening.Shelves.{AreDistinct}
 use Rattle.play_model.specs.States as states
 use Rattle.play_model.specs.States.{PlayState, opened, ordered}
-use Rattle.play_laws.specs.Intakes.{intake_of}
-use Rattle.play_laws.specs.Members.{AreAll, IsNode}
-use Rattle.play_clients.specs.declared.clients.Client.{Client}
-use Rattle.play_clients.specs.Blocks.{blocks_of}
-use Rattle.play_dues.specs.declared.live.LiveConns.{LiveConns}
-use Rattle.play_dues.specs.Live.{CoversNone}
-use Rattle.play_dues.specs.Places.{client_place}
-use Rattle.play.specs.declared.faults.PlayFault.{PlayFault}
-use Rattle.play.specs.Events as events
-use Rattle.play_laws.specs.Commands.{CommandFits, given_with}
-use Rattle.play.specs.Standing.{world_of, PlayStands}
-use Rattle.play.specs.declared.player.Player.{Player}
+use Rattle.play_lines.specs.PlayLaws.Intakes.{intake_of}
+use Rattle.play_lines.specs.PlayLaws.Members.{AreAll, IsNode}
+use Rattle.play_lines.specs.PlayClients.Client.{Client}
+use Rattle.play_lines.specs.PlayClients.Blocks.{blocks_of}
+use Rattle.play_lines.specs.PlayDues.LiveConns.{LiveConns}
+use Rattle.play_lines.specs.PlayDues.Live.{CoversNone}
+use Rattle.play_lines.specs.PlayDues.Places.{client_place}
+use Rattle.play_lines.specs.Play.PlayFault.{PlayFault}
+use Rattle.play_lines.specs.Play.Events as events
+use Rattle.play_lines.specs.PlayLaws.Commands.{CommandFits, given_with}
+use Rattle.play_lines.specs.Play.Standing.{world_of, PlayStands}
+use Rattle.play_lines.specs.Play.Player.{Player}
 use Rattle.play_model.specs.declared.asks.ReadAsk.{ReadAsk}
-use Rattle.play_readers.specs.declared.clients.ReadClient.{ReadClient}
+use Rattle.play_lines.specs.PlayReaders.ReadClient.{ReadClient}
 use Rattle.play_model.specs.declared.recoveries.Recovery.{Recovery}
-use Rattle.play_primaries.specs.declared.clients.PrimaryClient.{PrimaryClient}
-use Rattle.play_reads.specs.Joining as reads
-use Rattle.play_recoveries.specs.Joining as recoveries
-use Rattle.play_recoveries.specs.Places.{recoveries_of}
-use Rattle.play_readers.specs.Asks.{asks_of}
+use Rattle.play_lines.specs.PlayPrimaries.PrimaryClient.{PrimaryClient}
+use Rattle.play_lines.specs.PlayReads.Joining as reads
+use Rattle.play_lines.specs.PlayRecoveries.Joining as recoveries
+use Rattle.play_lines.specs.PlayRecoveries.Places.{recoveries_of}
+use Rattle.play_lines.specs.PlayReaders.Asks.{asks_of}
 use Rattle.play_lines.specs.declared.playing.Playing.{Playing}
 use Rattle.play_lines.specs.Drawing.{HasSettled}
 use Rattle.play_lines.specs.Ordering.{Orders, OrdersAt, OrdersArePlays}
 use Rattle.play_lines.specs.Showing.{PlayIs, IsPlaying, given_in}
-use Rattle.play_opening.specs.Opening.{AreNewClients, no_commands}
+use Rattle.play_lines.specs.PlayOpening.Opening.{AreNewClients, no_commands}
 use Rattle.play_tests.specs.declared.constants.TheConstants.{BLOCK, NODES, SEED, LENGTH}
 use Rattle.play_tests.specs.Giving.{both_nodes, nothing_given, HasGiven, Gives}
 

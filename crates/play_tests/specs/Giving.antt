@@ -11,8 +11,8 @@ use Rattle.writer_core.specs.declared.intake.Intake.{Intake}
 use Rattle.writer_core.specs.declared.intake.Stand.TheVariants as stand
 use Rattle.writer_core.specs.Commands.{intake_after}
 use Rattle.play_model.specs.States.{PlayState}
-use Rattle.play.specs.declared.faults.PlayFault.{PlayFault}
-use Rattle.play_laws.specs.Commands.{CommandFits}
+use Rattle.play_lines.specs.Play.PlayFault.{PlayFault}
+use Rattle.play_lines.specs.PlayLaws.Commands.{CommandFits}
 use Rattle.play_lines.specs.declared.playing.Playing.{Playing}
 use Rattle.play_lines.specs.Drawing.{blocks_in}
 use Rattle.play_lines.specs.Showing.{PlayIs, given_in}

@@ -1,19 +1,14 @@
 //! A client writes a block at two nodes over memory, in a play that is drawn until nothing is due.
 
 ghost use Rattle.std.specs.Prelude.{◌≡◌, [], ◌∷◌, IfOk, IfSome, OnOk};
-ghost use Rattle.node_opening.specs.Listening.{AreUnused};
+ghost use Rattle.play_lines.specs.NodeOpening.Listening.{AreUnused};
 ghost use Rattle.play_lines.specs.Showing.{IsPlaying};
 ghost use Rattle.play_tests.specs.Giving.{both_nodes, nothing_given, HasGiven, Gives};
 
 use crate::constants::{BLOCK, LENGTH, NODES, SEED};
-use client_events::Said;
 use hd_base::{BlockId, Files, LinkIn, LinkOut, Members, NodeId, ReplicaState, Roads, Stamp};
 use mem_ports::{MemDrawer, MemIn, MemOut, MemRoads, MemShelf};
-use node_opening::OpenFault;
-use play::PlayFault;
-use play_dues::LiveConns;
-use play_lines::{Playing, orders_are_plays};
-use play_opening::open_player;
+use play_lines::{LiveConns, OpenFault, PlayFault, Playing, Said, open_player, orders_are_plays};
 use rand_pcg::Lcg64Xsh32;
 use std::alloc::{AllocError, Global};
 use std::process::Abort;

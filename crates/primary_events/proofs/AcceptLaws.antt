@@ -13,8 +13,8 @@ use Rattle.block_recovery.specs.Actions.{Passes}
 use Rattle.road_traffic.specs.Showing.{Net, RoadsShow, accepted_net}
 use Rattle.road_traffic.proofs.ShowingLemmas.{roads-accepted}
 use Rattle.road_traffic.proofs.TrafficLemmas.{same-itself}
-use Rattle.member_events.specs.Joining.{AcceptsDial}
-use Rattle.member_events.proofs.EndLaws.{RoadsAt}
+use Rattle.client_events.specs.MemberEvents.Joining.{AcceptsDial}
+use Rattle.client_events.proofs.MemberEvents.EndLaws.{RoadsAt}
 use Rattle.primary_events.specs.declared.faults.PrimaryFault.{PrimaryFault}
 use Rattle.primary_events.specs.declared.faults.PrimaryFault.TheVariants as fault
 use Rattle.primary_events.specs.Beginning.{Lowers, AcceptsIf, TakesLower, AcceptFails}

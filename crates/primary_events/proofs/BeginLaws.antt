@@ -25,11 +25,11 @@ use Rattle.road_traffic.proofs.TrafficLemmas.{same-itself}
 use Rattle.world.specs.Parts.{Message, request}
 use Rattle.world.specs.Worlds.{World}
 use Rattle.world.specs.Primaries.{dials_answered, numbered}
-use Rattle.world_nets.specs.Rows.{rows_of, text_of}
-use Rattle.world_nets.specs.Nets.{IsRow, IsNetOf, held_by, is_over}
+use Rattle.world_primaries.specs.WorldNets.Rows.{rows_of, text_of}
+use Rattle.world_primaries.specs.WorldNets.Nets.{IsRow, IsNetOf, held_by, is_over}
 use Rattle.world_primaries.specs.Links.{AreDistinct}
-use Rattle.member_events.proofs.CauseLaws.{out_failed}
-use Rattle.member_events.proofs.EndLaws.{HeldAt}
+use Rattle.client_events.proofs.MemberEvents.CauseLaws.{out_failed}
+use Rattle.client_events.proofs.MemberEvents.EndLaws.{HeldAt}
 use Rattle.primary_events.specs.Showing.{LinkShows}
 use Rattle.primary_events.specs.Updating.{HasRisen, ExchangesWhole, RetiresFailed}
 use Rattle.primary_events.proofs.FlushLaws as flush

@@ -29,8 +29,8 @@ use Rattle.name_core.specs.declared.desks.Desk as desks
 use Rattle.name_core.specs.declared.faults.OfficeFault.{OfficeFault}
 use Rattle.recovery_core.specs.declared.primary.Recovered.{Recovered}
 use Rattle.recovery_core.specs.Primaries.{PrimaryState}
-use Rattle.member_events.specs.Roads.{RoadsPass}
-use Rattle.member_events.proofs.SetupKnown.{pass_same, pass_kept, pass_on}
+use Rattle.client_events.specs.MemberEvents.Roads.{RoadsPass}
+use Rattle.client_events.proofs.MemberEvents.SetupKnown.{pass_same, pass_kept, pass_on}
 use Rattle.primary_events.specs.Faults.{road_fault}
 use Rattle.primary_events.specs.Beginning.{Lowers, TakesLower, LowerIsKnown, AcceptFails}
 use Rattle.primary_events.proofs.PassLaws.{settled}

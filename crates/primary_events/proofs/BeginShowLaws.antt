@@ -27,9 +27,9 @@ use Rattle.world.specs.Parts.{Told}
 use Rattle.world.specs.Worlds.{World}
 use Rattle.world.specs.Events.{happens}
 use Rattle.world.specs.Primaries.{recovery_message}
-use Rattle.world_nets.specs.Rows.{text_of}
+use Rattle.world_primaries.specs.WorldNets.Rows.{text_of}
 use Rattle.world_primaries.specs.Drawn.{PrimariesAsk, PrimariesBegin}
-use Rattle.member_events.specs.Showing.{ShowsWorld}
+use Rattle.client_events.specs.MemberEvents.Showing.{ShowsWorld}
 use Rattle.primary_events.specs.declared.beginning.PrimaryBegun.{PrimaryBegun}
 use Rattle.primary_events.specs.declared.beginning.PrimaryBegun.TheVariants as begun
 use Rattle.primary_events.specs.declared.faults.PrimaryFault.{PrimaryFault}

@@ -28,12 +28,12 @@ use Rattle.world.specs.Worlds.{World, Change, apply}
 use Rattle.world.specs.Connections.{is_alive}
 use Rattle.world.specs.Events.{outcome, happens}
 use Rattle.world.specs.Primaries.{recovery_message, begins_with, is_among_conns, leading, numbered}
-use Rattle.world_nets.specs.Rows.{Row, rows_of, text_of}
-use Rattle.world_nets.specs.Nets.{IsRow, IsNetOf, IsEndOf, held_by, is_over}
-use Rattle.world_nets.proofs.EndLemmas.{same-end}
-use Rattle.world_nets.proofs.StepLemmas.{next-conn, runs-on, none-over, changed-over, followed}
-use Rattle.member_events.proofs.EndLaws.{HeldAt, end_from}
-use Rattle.member_events.proofs.WorldLaws.{happened}
+use Rattle.world_primaries.specs.WorldNets.Rows.{Row, rows_of, text_of}
+use Rattle.world_primaries.specs.WorldNets.Nets.{IsRow, IsNetOf, IsEndOf, held_by, is_over}
+use Rattle.world_primaries.proofs.WorldNets.EndLemmas.{same-end}
+use Rattle.world_primaries.proofs.WorldNets.StepLemmas.{next-conn, runs-on, none-over, changed-over, followed}
+use Rattle.client_events.proofs.MemberEvents.EndLaws.{HeldAt, end_from}
+use Rattle.client_events.proofs.MemberEvents.WorldLaws.{happened}
 use Rattle.primary_events.specs.Beginning.{LowerShows, LeadsBegun}
 use Rattle.primary_events.specs.Leading.{IsNoneOf}
 use Rattle.primary_events.specs.Showing.{MemberShows, PlaceShows}

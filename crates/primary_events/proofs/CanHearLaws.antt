@@ -6,12 +6,12 @@ use Rattle.world.specs.Parts.{Message, request, packet, ack, response, read_stat
 use Rattle.world.specs.Worlds.{World}
 use Rattle.world.specs.Connections.{Next, message, the_end, next_up}
 use Rattle.world.specs.Primaries.{listens}
-use Rattle.world_nets.specs.Drawn.{ComesUp}
-use Rattle.world_orders.specs.Orders.{Ordered, PrimaryIs, purpose_of, comes_up, is_first, recovering}
-use Rattle.world_orders.proofs.AllOrdered.{next-found}
+use Rattle.world_primaries.specs.WorldNets.Drawn.{ComesUp}
+use Rattle.world_primaries.specs.WorldOrders.Orders.{Ordered, PrimaryIs, purpose_of, comes_up, is_first, recovering}
+use Rattle.world_primaries.proofs.WorldOrders.AllOrdered.{next-found}
 use Rattle.world_primaries.specs.Drawn.{Leads}
 use Rattle.world_primaries.specs.Links.{AreDistinct}
-use Rattle.world_texts.specs.Texts.{SpellsText, Written}
+use Rattle.client_events.specs.WorldTexts.Texts.{SpellsText, Written}
 use Rattle.primary_events.specs.Hearing.{IsNextToPrimary, CanHear}
 use Rattle.primary_events.specs.Leading.{CanLead}
 

@@ -14,14 +14,14 @@ use Rattle.block_recovery.specs.declared.links.Seat.{Seat}
 use Rattle.block_recovery.specs.declared.links.Seat.TheVariants as seat
 use Rattle.block_recovery.specs.Actions.{Held, Passes, DialsNode, DialsAt, DialsAll}
 use Rattle.block_recovery.specs.Dialling.{dial_port, IsLink, DialsPort, DialsAs}
-use Rattle.link_messages.specs.Incomings.{nothing_received}
+use Rattle.block_recovery.specs.LinkMessages.Incomings.{nothing_received}
 use Rattle.link_pieces.specs.Roads.{IsUnanswered}
 use Rattle.road_traffic.specs.Traffic.{Traffics}
 use Rattle.road_traffic.specs.Showing.{Net, IsSane, RoadsShow, EndIs, no_inbox, dialled_net}
 use Rattle.road_traffic.specs.Laws.{ShowsDialled}
 use Rattle.road_traffic.proofs.CallLemmas.{dialled-shows}
 use Rattle.road_traffic.proofs.ShowingLemmas.{roads-same}
-use Rattle.member_events.proofs.EndLaws.{RoadsAt}
+use Rattle.client_events.proofs.MemberEvents.EndLaws.{RoadsAt}
 use Rattle.primary_events.proofs.NumberLemmas.{somes, somes_more, somes_none, somes_some, queue, queue_none, queue_some}
 use Rattle.primary_events.proofs.PlaceLemmas.{set_here, set_there, within, some_same}
 

@@ -21,14 +21,14 @@ use Rattle.road_traffic.proofs.CallLemmas.{shut-shows}
 use Rattle.road_traffic.proofs.TrafficLemmas.{changed-other, same-itself}
 use Rattle.world.specs.Parts.{Message}
 use Rattle.world.specs.Worlds.{World}
-use Rattle.world_nets.specs.Rows.{Row, Rows, rows_of, text_of, flushes_row, rows_flushed}
-use Rattle.world_nets.specs.Nets.{AreRows, IsEndOf, held_by, is_over}
-use Rattle.world_nets.specs.Ends.{IsElsewhere}
-use Rattle.world_nets.proofs.EndLemmas.{stays, stays-event, exchanged-over}
-use Rattle.world_nets.proofs.RowLemmas.{flushed, lost}
+use Rattle.world_primaries.specs.WorldNets.Rows.{Row, Rows, rows_of, text_of, flushes_row, rows_flushed}
+use Rattle.world_primaries.specs.WorldNets.Nets.{AreRows, IsEndOf, held_by, is_over}
+use Rattle.world_primaries.specs.WorldNets.Ends.{IsElsewhere}
+use Rattle.world_primaries.proofs.WorldNets.EndLemmas.{stays, stays-event, exchanged-over}
+use Rattle.world_primaries.proofs.WorldNets.RowLemmas.{flushed, lost}
 use Rattle.world_primaries.specs.Links.{AreDistinct}
-use Rattle.member_events.proofs.CauseLaws.{still_risen, out_failed, one_risen, or_first}
-use Rattle.member_events.proofs.EndLaws.{HeldAt, RoadsAt, Passed, end_passes, end_brought}
+use Rattle.client_events.proofs.MemberEvents.CauseLaws.{still_risen, out_failed, one_risen, or_first}
+use Rattle.client_events.proofs.MemberEvents.EndLaws.{HeldAt, RoadsAt, Passed, end_passes, end_brought}
 use Rattle.primary_events.specs.Leading.{IsNoneOf}
 use Rattle.primary_events.specs.Updating.{HasRisen}
 use Rattle.primary_events.proofs.GivingUpLaws.{differs, or_true, before_or}

@@ -30,17 +30,17 @@ use Rattle.world.specs.Worlds.{World, Change, Dial, apply}
 use Rattle.world.specs.Connections.{is_conn}
 use Rattle.world.specs.Events.{outcome, happens}
 use Rattle.world.specs.Primaries.{is_among_conns, listens, ends_change}
-use Rattle.world_nets.specs.Rows.{Row, rows_of, text_of, sends, shuts, shuts_if}
-use Rattle.world_nets.specs.Nets.{IsRow, IsNetOf, IsEndOf, held_by, is_over}
-use Rattle.world_nets.specs.Changes.{sent_by}
-use Rattle.world_nets.specs.Ends.{IsElsewhere}
-use Rattle.world_nets.specs.Steps.{SendsBy}
-use Rattle.world_nets.proofs.ChangeLemmas.{changed_so}
-use Rattle.world_nets.proofs.EndLemmas.{stays, same-end}
-use Rattle.world_nets.proofs.StepLemmas.{next-conn, runs-on, none-over, changed-over, followed}
+use Rattle.world_primaries.specs.WorldNets.Rows.{Row, rows_of, text_of, sends, shuts, shuts_if}
+use Rattle.world_primaries.specs.WorldNets.Nets.{IsRow, IsNetOf, IsEndOf, held_by, is_over}
+use Rattle.world_primaries.specs.WorldNets.Changes.{sent_by}
+use Rattle.world_primaries.specs.WorldNets.Ends.{IsElsewhere}
+use Rattle.world_primaries.specs.WorldNets.Steps.{SendsBy}
+use Rattle.world_primaries.proofs.WorldNets.ChangeLemmas.{changed_so}
+use Rattle.world_primaries.proofs.WorldNets.EndLemmas.{stays, same-end}
+use Rattle.world_primaries.proofs.WorldNets.StepLemmas.{next-conn, runs-on, none-over, changed-over, followed}
 use Rattle.world_primaries.specs.Links.{AreDistinct, link_flushes, ends_flushes}
-use Rattle.member_events.specs.Showing.{ShowsWorld}
-use Rattle.member_events.proofs.EndLaws.{RoadsAt, end_brought}
+use Rattle.client_events.specs.MemberEvents.Showing.{ShowsWorld}
+use Rattle.client_events.proofs.MemberEvents.EndLaws.{RoadsAt, end_brought}
 use Rattle.primary_events.specs.Leading.{AllOthersStay}
 use Rattle.primary_events.specs.Showing.{IsShut, SeatShows, PlaceShows}
 use Rattle.primary_events.proofs.PlaceLemmas.{set_here, set_there, within, some_same}

@@ -36,14 +36,14 @@ use Rattle.world.specs.Worlds.{World, Change, apply}
 use Rattle.world.specs.Connections.{is_alive, place_of}
 use Rattle.world.specs.Events.{outcome, happens}
 use Rattle.world.specs.Primaries.{begins_as, begins_with, dials_answered, leading, numbered, recovery_message}
-use Rattle.world_nets.specs.Nets.{IsNetOf, IsEndOf}
-use Rattle.world_nets.specs.Rows.{Row, text_of}
-use Rattle.world_nets.proofs.EndLemmas.{same-end}
+use Rattle.world_primaries.specs.WorldNets.Nets.{IsNetOf, IsEndOf}
+use Rattle.world_primaries.specs.WorldNets.Rows.{Row, text_of}
+use Rattle.world_primaries.proofs.WorldNets.EndLemmas.{same-end}
 use Rattle.world_primaries.specs.Drawn.{PrimariesAsk, PrimariesBegin}
-use Rattle.member_events.specs.Roads.{RoadsPass}
-use Rattle.member_events.proofs.SetupKnown.{pass_on}
-use Rattle.member_events.proofs.StepLaws.{last_of}
-use Rattle.member_events.proofs.WorldLaws.{happened}
+use Rattle.client_events.specs.MemberEvents.Roads.{RoadsPass}
+use Rattle.client_events.proofs.MemberEvents.SetupKnown.{pass_on}
+use Rattle.client_events.proofs.MemberEvents.StepLaws.{last_of}
+use Rattle.client_events.proofs.MemberEvents.WorldLaws.{happened}
 use Rattle.primary_events.specs.declared.beginning.PrimaryBegun.{PrimaryBegun}
 use Rattle.primary_events.specs.declared.beginning.PrimaryBegun.TheVariants as beginning
 use Rattle.primary_events.specs.declared.faults.PrimaryFault.{PrimaryFault}

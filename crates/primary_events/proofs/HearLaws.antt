@@ -21,10 +21,10 @@ use Rattle.block_recovery.specs.Actions.{Settles, GivesBack, place_after}
 use Rattle.block_recovery.specs.Dialling.{is_lost}
 use Rattle.block_recovery.specs.Members.{TakesEnd, TakesLink, TakesAt, Receives, ListensAs, ListensOn, HearsBy, HearsAt, HearsMember, HearsSo}
 use Rattle.block_recovery.specs.Steps.{Hears}
-use Rattle.link_messages.specs.declared.incoming.Next as nexts
-use Rattle.link_messages.specs.Incomings.{IncomingState, NextEnds}
+use Rattle.block_recovery.specs.LinkMessages.Next as nexts
+use Rattle.block_recovery.specs.LinkMessages.Incomings.{IncomingState, NextEnds}
 use Rattle.link_pieces.specs.Roads.{BringsEnd}
-use Rattle.frame_feed.specs.Kinds.{answers}
+use Rattle.block_recovery.specs.FrameFeed.Kinds.{answers}
 use Rattle.op_headers.specs.declared.answers.RecoveryAnswer.{RecoveryAnswer}
 use Rattle.recovery_core.specs.declared.primary.Phase.{Phase}
 use Rattle.recovery_core.specs.declared.standings.Heard.{Heard}
@@ -41,20 +41,20 @@ use Rattle.world.specs.Worlds.{World, Change, apply}
 use Rattle.world.specs.Connections.{Next, message, the_end, up_taken, is_alive, is_conn}
 use Rattle.world.specs.Events.{outcome, happens}
 use Rattle.world.specs.Primaries.{heard_of, listens}
-use Rattle.world_nets.specs.Nets.{IsNetOf, IsEndOf, held_by, inbox_for, is_over}
-use Rattle.world_nets.specs.Changes.{sent_by}
-use Rattle.world_nets.specs.Ends.{IsElsewhere}
-use Rattle.world_nets.specs.Flushing.{upper_flushes}
-use Rattle.world_nets.specs.Steps.{SendsBy, TakesNet, taken_net, is_end}
-use Rattle.world_nets.proofs.EndLemmas.{stays, same-end}
-use Rattle.world_nets.proofs.StepLemmas.{changed-net, changed-over, taken-net, taken-over, lost-net, followed}
+use Rattle.world_primaries.specs.WorldNets.Nets.{IsNetOf, IsEndOf, held_by, inbox_for, is_over}
+use Rattle.world_primaries.specs.WorldNets.Changes.{sent_by}
+use Rattle.world_primaries.specs.WorldNets.Ends.{IsElsewhere}
+use Rattle.world_primaries.specs.WorldNets.Flushing.{upper_flushes}
+use Rattle.world_primaries.specs.WorldNets.Steps.{SendsBy, TakesNet, taken_net, is_end}
+use Rattle.world_primaries.proofs.WorldNets.EndLemmas.{stays, same-end}
+use Rattle.world_primaries.proofs.WorldNets.StepLemmas.{changed-net, changed-over, taken-net, taken-over, lost-net, followed}
 use Rattle.world_primaries.specs.Drawn.{hears_at, PrimariesHear}
 use Rattle.world_primaries.specs.Links.{PrimariesSend}
-use Rattle.member_events.specs.Showing.{ShowsWorld}
-use Rattle.member_events.proofs.CauseLaws.{in_failed, one_risen}
-use Rattle.member_events.proofs.DownEvents.{held_took}
-use Rattle.member_events.proofs.EndLaws.{HeldAt, RoadsAt, Passed, end_held, end_from, end_passes, end_brought}
-use Rattle.member_events.proofs.WorldLaws.{at_put, happened}
+use Rattle.client_events.specs.MemberEvents.Showing.{ShowsWorld}
+use Rattle.client_events.proofs.MemberEvents.CauseLaws.{in_failed, one_risen}
+use Rattle.client_events.proofs.MemberEvents.DownEvents.{held_took}
+use Rattle.client_events.proofs.MemberEvents.EndLaws.{HeldAt, RoadsAt, Passed, end_held, end_from, end_passes, end_brought}
+use Rattle.client_events.proofs.MemberEvents.WorldLaws.{at_put, happened}
 use Rattle.client_events.specs.Showing.{OthersStay}
 use Rattle.primary_events.specs.declared.faults.PrimaryFault.{PrimaryFault}
 use Rattle.primary_events.specs.Hearing as hearing

@@ -3,20 +3,20 @@ use Rattle.std.proofs.Common.{◌≡◌, true, false, Some, refl, ap}
 use Rattle.hd_base.specs.Faults.{FaultsIncreased}
 use Rattle.hd_base.specs.declared.links.LinkIn as link_in
 use Rattle.block_recovery.specs.Hearing.{ends_with}
-use Rattle.frame_feed.specs.Kinds.{answers}
-use Rattle.frame_feed.specs.KindLaws.{answers_sound}
-use Rattle.link_messages.specs.declared.incoming.Next as nexts
-use Rattle.link_messages.specs.declared.incoming.Next.TheVariants as next
-use Rattle.link_messages.specs.Incomings.{IncomingState, nothing_received, NextEnds}
+use Rattle.block_recovery.specs.FrameFeed.Kinds.{answers}
+use Rattle.block_recovery.specs.FrameFeed.KindLaws.{answers_sound}
+use Rattle.block_recovery.specs.LinkMessages.Next as nexts
+use Rattle.block_recovery.specs.LinkMessages.Next.TheVariants as next
+use Rattle.block_recovery.specs.LinkMessages.Incomings.{IncomingState, nothing_received, NextEnds}
 use Rattle.op_headers.specs.Answers.{answer_text}
 use Rattle.op_headers.specs.declared.answers.RecoveryAnswer.{RecoveryAnswer}
-use Rattle.pipe_member.specs.declared.stages.Looked.TheVariants as looked
-use Rattle.pipe_member.specs.Looks.{looked_of}
+use Rattle.client_events.specs.PipeMember.Looked.TheVariants as looked
+use Rattle.client_events.specs.PipeMember.Looks.{looked_of}
 use Rattle.world.specs.Parts.{request, packet, ack, response, read_status, recovery_answer}
 use Rattle.world.specs.Connections.{Next, message, the_end}
-use Rattle.world_nets.specs.Nets.{held_by, inbox_for}
-use Rattle.world_nets.specs.Steps.{is_end}
-use Rattle.member_events.proofs.TakeLaws.{message_came, end_came}
+use Rattle.world_primaries.specs.WorldNets.Nets.{held_by, inbox_for}
+use Rattle.world_primaries.specs.WorldNets.Steps.{is_end}
+use Rattle.client_events.proofs.MemberEvents.TakeLaws.{message_came, end_came}
 use Rattle.primary_events.specs.Hearing.{IsNextToPrimary}
 
 -- what the link gives of what stands next

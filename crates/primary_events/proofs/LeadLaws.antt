@@ -46,12 +46,12 @@ use Rattle.world.specs.Parts.{Told, Leading, leads}
 use Rattle.world.specs.Worlds.{World, Change, apply}
 use Rattle.world.specs.Events.{outcome, happens}
 use Rattle.world.specs.Primaries.{ends_change, updates_change}
-use Rattle.world_nets.proofs.EndLemmas.{same-end}
-use Rattle.world_nets.specs.Nets.{IsEndOf}
+use Rattle.world_primaries.proofs.WorldNets.EndLemmas.{same-end}
+use Rattle.world_primaries.specs.WorldNets.Nets.{IsEndOf}
 use Rattle.world_primaries.specs.Drawn.{Leads, PrimariesAsk, PrimariesStep, commit_asked}
 use Rattle.world_primaries.specs.Links.{PrimariesSend}
-use Rattle.member_events.specs.Showing.{ShowsWorld}
-use Rattle.member_events.proofs.WorldLaws.{happened}
+use Rattle.client_events.specs.MemberEvents.Showing.{ShowsWorld}
+use Rattle.client_events.proofs.MemberEvents.WorldLaws.{happened}
 use Rattle.client_events.specs.Showing.{StayShown}
 use Rattle.client_events.proofs.CompleteLaws.{stays_shown}
 use Rattle.primary_events.specs.declared.faults.PrimaryFault.{PrimaryFault}

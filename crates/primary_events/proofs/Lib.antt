@@ -21,3 +21,4 @@ pub mod BegunLaws
 pub mod BeginPassLaws
 pub mod GrantLaws
 pub mod BeginShowLaws
+pub mod ClientEvents

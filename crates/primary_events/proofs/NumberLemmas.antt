@@ -9,9 +9,9 @@ use Rattle.recovery_core.specs.Primaries.{begun_with}
 use Rattle.world.specs.Parts.{Message, Place}
 use Rattle.world.specs.Worlds.{World, Change, Dial, apply, listed}
 use Rattle.world.specs.Primaries.{is_among_conns, numbered, dials_answered, primary_dials, recovery_message, begins_with}
-use Rattle.world_nets.specs.Rows.{rows_of, sends, flushes_row}
-use Rattle.world_nets.specs.Changes.{sent_in}
-use Rattle.world_nets.proofs.ChangeLemmas.{changed_so}
+use Rattle.world_primaries.specs.WorldNets.Rows.{rows_of, sends, flushes_row}
+use Rattle.world_primaries.specs.WorldNets.Changes.{sent_in}
+use Rattle.world_primaries.proofs.WorldNets.ChangeLemmas.{changed_so}
 use Rattle.world_primaries.specs.Links.{AreDistinct}
 use Rattle.primary_events.proofs.GivingUpLaws.{at_among}
 use Rattle.primary_events.proofs.PlaceLemmas.{some_same}

@@ -24,9 +24,9 @@ use Rattle.recovery_core.specs.declared.primary.OwnStep.{OwnStep}
 use Rattle.recovery_core.specs.declared.primary.OwnStep.TheVariants as own
 use Rattle.recovery_core.specs.declared.standings.Standing.{Standing}
 use Rattle.recovery_core.specs.Primaries.{PrimaryState, own_step}
-use Rattle.member_events.specs.Roads.{RoadsPass}
-use Rattle.member_events.proofs.KnownLaws.{known_on}
-use Rattle.member_events.proofs.SetupKnown.{pass_same, pass_brought, pass_on}
+use Rattle.client_events.specs.MemberEvents.Roads.{RoadsPass}
+use Rattle.client_events.proofs.MemberEvents.KnownLaws.{known_on}
+use Rattle.client_events.proofs.MemberEvents.SetupKnown.{pass_same, pass_brought, pass_on}
 use Rattle.primary_events.specs.declared.faults.PrimaryFault.{PrimaryFault}
 use Rattle.primary_events.specs.declared.faults.PrimaryFault.TheVariants as fault
 use Rattle.primary_events.specs.Faults.{road_fault, IsRoadFault}

@@ -26,13 +26,13 @@ use Rattle.world.specs.Worlds.{World, Change, Dial, apply, dial_at, listed}
 use Rattle.world.specs.Connections.{place_of}
 use Rattle.world.specs.Events.{outcome, happens}
 use Rattle.world.specs.Primaries.{primary_change, begins_as}
-use Rattle.world_nets.specs.Changes.{sent_in}
-use Rattle.world_nets.specs.Steps.{SendsBy}
-use Rattle.world_nets.proofs.EndLemmas.{same-end}
-use Rattle.world_nets.proofs.StepLemmas.{runs-on}
+use Rattle.world_primaries.specs.WorldNets.Changes.{sent_in}
+use Rattle.world_primaries.specs.WorldNets.Steps.{SendsBy}
+use Rattle.world_primaries.proofs.WorldNets.EndLemmas.{same-end}
+use Rattle.world_primaries.proofs.WorldNets.StepLemmas.{runs-on}
 use Rattle.world_primaries.specs.Drawn.{PrimariesAsk, PrimariesBegin, MayBegin, begin_asked}
-use Rattle.member_events.specs.Showing.{ShowsWorld}
-use Rattle.member_events.proofs.WorldLaws.{happened}
+use Rattle.client_events.specs.MemberEvents.Showing.{ShowsWorld}
+use Rattle.client_events.proofs.MemberEvents.WorldLaws.{happened}
 use Rattle.client_events.specs.Showing.{StayShown}
 use Rattle.client_events.proofs.CompleteLaws.{stays_shown, shown_on}
 use Rattle.primary_events.specs.Beginning.{CanBegin, begun_world, EndsBegun}

@@ -16,7 +16,7 @@ use Rattle.block_recovery.specs.Dialling.{conn_of}
 use Rattle.block_recovery.specs.Exchanging.{BringsLink, BringsAt, BringsAll}
 use Rattle.block_recovery.specs.Failing.{link_failed}
 use Rattle.link_pieces.specs.Roads.{BringsEnd}
-use Rattle.member_events.proofs.CauseLaws.{one_risen}
+use Rattle.client_events.proofs.MemberEvents.CauseLaws.{one_risen}
 use Rattle.primary_events.specs.Updating.{is_risen}
 use Rattle.primary_events.proofs.FlushLaws.{brings_risen}
 use Rattle.primary_events.proofs.GivingUpLaws.{or_true}

@@ -19,8 +19,8 @@ use Rattle.link_pieces.specs.Roads.{KeepsInward}
 use Rattle.road_traffic.specs.Showing.{Net, EndIs}
 use Rattle.road_traffic.proofs.CallLemmas.{sent-shows, quiet-shows}
 use Rattle.world.specs.Worlds.{World}
-use Rattle.world_nets.specs.Nets.{held_by, is_over}
-use Rattle.member_events.proofs.EndLaws.{HeldAt, end_held}
+use Rattle.world_primaries.specs.WorldNets.Nets.{held_by, is_over}
+use Rattle.client_events.proofs.MemberEvents.EndLaws.{HeldAt, end_held}
 use Rattle.primary_events.specs.Showing.{LinkShows}
 use Rattle.primary_events.proofs.PlaceLemmas.{set_here, set_there, within, same_or, some_same}
 

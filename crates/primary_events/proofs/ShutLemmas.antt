@@ -6,7 +6,7 @@ use Rattle.world.specs.Parts.{Message, Marks}
 use Rattle.world.specs.Worlds.{World, Change, apply, put, shut_marks, ups_with, downs_with}
 use Rattle.world.specs.Connections.{Next, message, the_end, marks_taken, up_taken}
 use Rattle.world.specs.Events.{outcome, happens}
-use Rattle.member_events.proofs.WorldLaws.{happened}
+use Rattle.client_events.proofs.MemberEvents.WorldLaws.{happened}
 use Rattle.primary_events.specs.Showing.{IsShut}
 
 still : (b : Bool) (sent : List Message) (k : Marks) → is_some k.end ≡ true → is_some (if b then shut_marks sent k else k).end ≡ true

@@ -36,15 +36,15 @@ use Rattle.world.specs.Parts.{Message, Leading}
 use Rattle.world.specs.Worlds.{World, Change, apply}
 use Rattle.world.specs.Events.{outcome, happens}
 use Rattle.world.specs.Primaries.{is_among_conns, listens, updates_change}
-use Rattle.world_nets.specs.Rows.{Row, rows_of, text_of, flushes_row}
-use Rattle.world_nets.specs.Nets.{IsRow, IsNetOf, held_by, is_over}
-use Rattle.world_nets.proofs.EndLemmas.{same-end}
-use Rattle.world_nets.proofs.StepLemmas.{next-conn, runs-on, none-over, changed-over, followed}
+use Rattle.world_primaries.specs.WorldNets.Rows.{Row, rows_of, text_of, flushes_row}
+use Rattle.world_primaries.specs.WorldNets.Nets.{IsRow, IsNetOf, held_by, is_over}
+use Rattle.world_primaries.proofs.WorldNets.EndLemmas.{same-end}
+use Rattle.world_primaries.proofs.WorldNets.StepLemmas.{next-conn, runs-on, none-over, changed-over, followed}
 use Rattle.world_primaries.specs.Links.{update_of}
-use Rattle.member_events.proofs.CauseLaws.{out_failed}
-use Rattle.member_events.proofs.EndLaws.{HeldAt, end_from}
-use Rattle.member_events.proofs.StepLaws.{last_of}
-use Rattle.member_events.proofs.WorldLaws.{happened}
+use Rattle.client_events.proofs.MemberEvents.CauseLaws.{out_failed}
+use Rattle.client_events.proofs.MemberEvents.EndLaws.{HeldAt, end_from}
+use Rattle.client_events.proofs.MemberEvents.StepLaws.{last_of}
+use Rattle.client_events.proofs.MemberEvents.WorldLaws.{happened}
 use Rattle.primary_events.specs.declared.faults.PrimaryFault.{PrimaryFault}
 use Rattle.primary_events.specs.declared.faults.PrimaryFault.TheVariants as fault
 use Rattle.primary_events.specs.Leading.{CanLead, SpellConns, stepped, UpdateSent, LeadUpdates}

@@ -23,12 +23,12 @@ use Rattle.world.specs.Parts.{Message, request, Leading}
 use Rattle.world.specs.Worlds.{World, Change, Dial, apply, dial_at, listed}
 use Rattle.world.specs.Connections.{is_conn}
 use Rattle.world.specs.Primaries.{is_among_conns, updates_on, is_done_with, updates_change}
-use Rattle.world_nets.specs.Rows.{Row, rows_of, sends, shuts_if, flushes_row}
-use Rattle.world_nets.specs.Changes.{sent_in}
-use Rattle.world_nets.proofs.ChangeLemmas.{changed_so}
+use Rattle.world_primaries.specs.WorldNets.Rows.{Row, rows_of, sends, shuts_if, flushes_row}
+use Rattle.world_primaries.specs.WorldNets.Changes.{sent_in}
+use Rattle.world_primaries.proofs.WorldNets.ChangeLemmas.{changed_so}
 use Rattle.world_primaries.specs.Links.{AreDistinct, update_of}
-use Rattle.world_texts.specs.Texts.{SpellsText}
-use Rattle.member_events.proofs.StepLaws.{spelled_within, fits_within}
+use Rattle.client_events.specs.WorldTexts.Texts.{SpellsText}
+use Rattle.client_events.proofs.MemberEvents.StepLaws.{spelled_within, fits_within}
 use Rattle.primary_events.specs.Showing.{stands_in}
 use Rattle.primary_events.proofs.GivingUpLaws.{conn_is, among_at}
 use Rattle.primary_events.proofs.PlaceLemmas.{some_same}

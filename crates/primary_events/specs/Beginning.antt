@@ -31,10 +31,10 @@ use Rattle.world.specs.Clients.{are_members}
 use Rattle.world.specs.Connections.{is_alive}
 use Rattle.world.specs.Events.{happens}
 use Rattle.world.specs.Primaries.{dials_answered, numbered}
-use Rattle.world_nets.specs.Nets.{IsEndOf}
-use Rattle.member_events.specs.Joining.{AcceptsDial}
-use Rattle.member_events.specs.Roads.{RoadsPass}
-use Rattle.member_events.specs.Showing.{ShowsWorld}
+use Rattle.world_primaries.specs.WorldNets.Nets.{IsEndOf}
+use Rattle.client_events.specs.MemberEvents.Joining.{AcceptsDial}
+use Rattle.client_events.specs.MemberEvents.Roads.{RoadsPass}
+use Rattle.client_events.specs.MemberEvents.Showing.{ShowsWorld}
 use Rattle.primary_events.specs.declared.beginning.PrimaryBegun.{PrimaryBegun}
 use Rattle.primary_events.specs.declared.beginning.PrimaryBegun.TheVariants as begun
 use Rattle.primary_events.specs.declared.faults.PrimaryFault.{PrimaryFault}

@@ -17,11 +17,11 @@ use Rattle.world.specs.Worlds.{World}
 use Rattle.world.specs.Connections.{Next, message, the_end, is_alive}
 use Rattle.world.specs.Events.{happens}
 use Rattle.world.specs.Primaries.{heard_of, listens}
-use Rattle.world_nets.specs.Drawn.{ComesUp}
-use Rattle.world_orders.specs.Orders.{Ordered}
+use Rattle.world_primaries.specs.WorldNets.Drawn.{ComesUp}
+use Rattle.world_primaries.specs.WorldOrders.Orders.{Ordered}
 use Rattle.world_primaries.specs.Drawn.{Leads, HearsMember}
 use Rattle.world_primaries.specs.Links.{AreDistinct}
-use Rattle.world_texts.specs.Texts.{SpellsText, Written}
+use Rattle.client_events.specs.WorldTexts.Texts.{SpellsText, Written}
 use Rattle.client_events.specs.Showing.{OthersStay}
 use Rattle.primary_events.specs.declared.faults.PrimaryFault.{PrimaryFault}
 use Rattle.primary_events.specs.declared.faults.PrimaryFault.TheVariants as fault

@@ -29,13 +29,13 @@ use Rattle.world.specs.Connections.{is_alive}
 use Rattle.world.specs.Parts.{Leading, has_led}
 use Rattle.world.specs.Worlds.{World}
 use Rattle.world.specs.Events.{happens}
-use Rattle.world_nets.specs.Ends.{IsElsewhere}
-use Rattle.world_nets.specs.Nets.{IsEndOf}
-use Rattle.world_orders.specs.Orders.{Ordered}
+use Rattle.world_primaries.specs.WorldNets.Ends.{IsElsewhere}
+use Rattle.world_primaries.specs.WorldNets.Nets.{IsEndOf}
+use Rattle.world_primaries.specs.WorldOrders.Orders.{Ordered}
 use Rattle.world_primaries.specs.Drawn.{Leads}
 use Rattle.world_primaries.specs.Links.{AreDistinct}
-use Rattle.member_events.specs.Joining.{SpellDown}
-use Rattle.member_events.specs.Showing.{ShowsWorld}
+use Rattle.client_events.specs.MemberEvents.Joining.{SpellDown}
+use Rattle.client_events.specs.MemberEvents.Showing.{ShowsWorld}
 use Rattle.primary_events.specs.declared.faults.PrimaryFault.{PrimaryFault}
 use Rattle.primary_events.specs.declared.faults.PrimaryFault.TheVariants as fault
 use Rattle.primary_events.specs.Showing.{PrimaryStands}

@@ -4,3 +4,10 @@ pub mod Hearing
 pub mod Updating
 pub mod Leading
 pub mod Beginning
+pub mod BlockRecovery
+pub mod ClientEvents
+pub mod MemberEvents
+pub mod ReplicaFiles
+pub mod World
+pub mod WorldPrimaries
+pub mod WriterCore

@@ -7,7 +7,7 @@ use Rattle.block_recovery.specs.declared.links.Link.{Link}
 use Rattle.block_recovery.specs.declared.links.Seat.{Seat}
 use Rattle.block_recovery.specs.declared.links.Seat.TheVariants as seat
 use Rattle.block_recovery.specs.declared.primary.Primary as running
-use Rattle.link_messages.specs.Incomings.{nothing_received}
+use Rattle.block_recovery.specs.LinkMessages.Incomings.{nothing_received}
 use Rattle.recovery_core.specs.declared.primary.Phase.{Phase}
 use Rattle.recovery_core.specs.declared.primary.Phase.TheVariants as phase
 use Rattle.recovery_core.specs.declared.standings.Standing.{Standing}
@@ -16,8 +16,8 @@ use Rattle.road_traffic.specs.Showing.{Net}
 use Rattle.world.specs.Parts.{Leading, leads}
 use Rattle.world.specs.Worlds.{World}
 use Rattle.world.specs.Primaries.{listens}
-use Rattle.world_nets.specs.Nets.{IsEndOf, is_over}
-use Rattle.member_events.specs.Showing.{ShowsWorld}
+use Rattle.world_primaries.specs.WorldNets.Nets.{IsEndOf, is_over}
+use Rattle.client_events.specs.MemberEvents.Showing.{ShowsWorld}
 
 -- ITS CONNECTIONS
 

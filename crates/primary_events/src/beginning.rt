@@ -2,7 +2,7 @@
 
 ghost use Rattle.std.specs.Prelude.{◌≡◌, length, All, IfOk, Ok};
 ghost use Rattle.block_recovery.specs.Dialling.{LinkIsKnown};
-ghost use Rattle.member_events.specs.Roads.{RoadsPass};
+ghost use Rattle.client_events.specs.MemberEvents.Roads.{RoadsPass};
 ghost use Rattle.primary_events.specs.Beginning.{
   BeginsBy,
   AcceptsAt,

@@ -2,7 +2,7 @@
 
 ghost use Rattle.std.specs.Prelude.{◌≡◌, length, All};
 ghost use Rattle.block_recovery.specs.Dialling.{LinkIsKnown};
-ghost use Rattle.member_events.specs.Roads.{RoadsPass};
+ghost use Rattle.client_events.specs.MemberEvents.Roads.{RoadsPass};
 ghost use Rattle.primary_events.specs.Hearing.{heard_as, IsTaken, HearShows};
 
 use crate::faults::{PrimaryFault, road_fault};

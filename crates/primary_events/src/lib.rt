@@ -10,6 +10,7 @@ mod leading;
 mod updating;
 
 pub use beginning::{PrimaryBegun, begin};
+pub use block_recovery::{Primary, PrimaryStep};
 pub use faults::PrimaryFault;
 pub use hearing::hear;
 pub use laws::{primaries_can_hear, primaries_can_lead};

@@ -3,7 +3,7 @@
 ghost use Rattle.std.specs.Prelude.{◌≡◌, length, All};
 ghost use Rattle.std.specs.List.{list_any};
 ghost use Rattle.block_recovery.specs.Dialling.{LinkIsKnown};
-ghost use Rattle.member_events.specs.Roads.{RoadsPass};
+ghost use Rattle.client_events.specs.MemberEvents.Roads.{RoadsPass};
 ghost use Rattle.primary_events.specs.Updating.{is_risen, Retires, Flushes, FollowsStep};
 
 use crate::faults::{PrimaryFault, road_fault};

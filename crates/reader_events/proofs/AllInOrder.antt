@@ -1,25 +1,25 @@
 -- Readers take in order after every list of events.
 use Rattle.std.proofs.Common.{◌≡◌, ℕ, Bool, true, false, List, [], ◌∷◌, Option, Some, None, IfSome, refl, sym, ap, ◌∙◌, subst, arith, eqb-true}
 use Rattle.std.specs.Prelude.{◌==◌, ◌&&◌, not, nat_lt}
-use Rattle.world.specs.declared.events.Delivery.{Delivery}
-use Rattle.world.specs.declared.events.Delivery.TheVariants as delivery
-use Rattle.world.specs.declared.events.Direction.{Direction}
-use Rattle.world.specs.declared.events.Direction.TheVariants as direction
-use Rattle.world.specs.declared.events.Event.{Event}
-use Rattle.world.specs.declared.events.Event.TheVariants as event
-use Rattle.world.specs.declared.events.FoundReplica.{FoundReplica}
-use Rattle.world.specs.declared.events.OwnStep.{OwnStep}
-use Rattle.world.specs.declared.events.OwnStep.TheVariants as own
-use Rattle.world.specs.Parts.{Upper, by_writer, by_member, by_reader, by_primary, Marks, Reader}
-use Rattle.world.specs.Worlds.{World, Change, apply, put, start}
-use Rattle.world.specs.Connections.{Next, marks_taken, next_down, next_up, down_taken, up_taken, is_served, stopped_where, is_of_node, lost_marks}
-use Rattle.world.specs.Nodes.{lower_down, lower_ready}
-use Rattle.world.specs.Restarts.{restart}
-use Rattle.world.specs.Events.{changed, own_change, down_as, down_event, ready_event, unless_fails, upper_up, up_as, up_event, fault_event, lost, stop, where_so, outcome, after_event, happens, run}
-use Rattle.world.specs.Primaries.{office_event}
-use Rattle.world_laws.specs.Placing.{Placed}
-use Rattle.world_laws.proofs.FactTables.{if-each, when-each}
-use Rattle.world_laws.proofs.PlacedLaws.{happens-placed, all-placed}
+use Rattle.world_settling.specs.World.Delivery.{Delivery}
+use Rattle.world_settling.specs.World.Delivery.TheVariants as delivery
+use Rattle.world_settling.specs.World.Direction.{Direction}
+use Rattle.world_settling.specs.World.Direction.TheVariants as direction
+use Rattle.world_settling.specs.World.Event.{Event}
+use Rattle.world_settling.specs.World.Event.TheVariants as event
+use Rattle.world_settling.specs.World.FoundReplica.{FoundReplica}
+use Rattle.world_settling.specs.World.OwnStep.{OwnStep}
+use Rattle.world_settling.specs.World.OwnStep.TheVariants as own
+use Rattle.world_settling.specs.World.Parts.{Upper, by_writer, by_member, by_reader, by_primary, Marks, Reader}
+use Rattle.world_settling.specs.World.Worlds.{World, Change, apply, put, start}
+use Rattle.world_settling.specs.World.Connections.{Next, marks_taken, next_down, next_up, down_taken, up_taken, is_served, stopped_where, is_of_node, lost_marks}
+use Rattle.world_settling.specs.World.Nodes.{lower_down, lower_ready}
+use Rattle.world_settling.specs.World.Restarts.{restart}
+use Rattle.world_settling.specs.World.Events.{changed, own_change, down_as, down_event, ready_event, unless_fails, upper_up, up_as, up_event, fault_event, lost, stop, where_so, outcome, after_event, happens, run}
+use Rattle.world_settling.specs.World.Primaries.{office_event}
+use Rattle.world_orders.specs.WorldLaws.Placing.{Placed}
+use Rattle.world_orders.proofs.WorldLaws.FactTables.{if-each, when-each}
+use Rattle.world_orders.proofs.WorldLaws.PlacedLaws.{happens-placed, all-placed}
 use Rattle.world_orders.specs.Orders.{ReaderIs, Ordered}
 use Rattle.world_orders.proofs.AllOrdered.{put-here, happens-ordered, start-ordered, all-ordered}
 use Rattle.world_orders.proofs.Clients.{clash}

@@ -13,10 +13,10 @@ use Rattle.hd_base.specs.declared.numbers.NodeId.{NodeId}
 use Rattle.hd_base.specs.declared.roads.Roads as roads
 use Rattle.hd_base.specs.declared.roads.TheConstants.{FIRST_PORT}
 use Rattle.link_pieces.specs.Roads.{KeepsInward, IsDialled}
-use Rattle.member_core.specs.declared.requests.TheConstants.{MAX_PORT}
+use Rattle.world_settling.specs.MemberCore.TheConstants.{MAX_PORT}
 use Rattle.op_headers.specs.declared.ops.Op.TheVariants as op
 use Rattle.op_headers.specs.declared.ops.ReadOp.{ReadOp}
-use Rattle.pipe_turns.specs.Acting.{with_half}
+use Rattle.visible_read.specs.PipeTurns.Acting.{with_half}
 use Rattle.read_core.specs.Readings.{asked}
 use Rattle.road_traffic.proofs.CallLemmas.{sent-shows, dialled-shows}
 use Rattle.road_traffic.proofs.ShowingLemmas.{roads-accepted, roads-same}
@@ -26,24 +26,24 @@ use Rattle.road_traffic.specs.Traffic.{Traffic}
 use Rattle.visible_read.specs.declared.reading.Reading.{Reading}
 use Rattle.visible_read.specs.declared.talking.Talk.{Talk}
 use Rattle.visible_read.specs.Talking.{request_of}
-use Rattle.world.specs.declared.events.Event.{Event}
-use Rattle.world.specs.Parts.{Dialled, request, by_reader, reads}
-use Rattle.world.specs.Worlds.{World, Change, Dial, put, apply}
-use Rattle.world.specs.Connections.{place_of}
-use Rattle.world.specs.Clients.{reader_dials}
-use Rattle.world.specs.Events.{outcome, happens}
-use Rattle.world_nets.specs.Nets.{IsEndOf, held_by, is_over}
-use Rattle.world_nets.specs.Rows.{text_of}
-use Rattle.world_nets.specs.Dials.{DialsBy, IsAccepted, flushes_with, made_net}
-use Rattle.world_nets.proofs.DialLemmas.{dialled-net, sane-stays, ends-made}
-use Rattle.world_nets.proofs.EndLemmas.{same-end}
-use Rattle.world_nets.proofs.StepLemmas.{changed-net, changed-over, next-conn, followed}
-use Rattle.member_events.proofs.EndLaws.{HeldAt, RoadsAt, Passed, end_from, end_passes}
-use Rattle.member_events.proofs.FaultEvents.{rises_from}
-use Rattle.member_events.proofs.MemberLaws.{never}
-use Rattle.member_events.proofs.WorldLaws.{happened}
-use Rattle.member_events.specs.Joining.{AcceptsDial}
-use Rattle.member_events.specs.Showing.{ShowsWorld}
+use Rattle.world_settling.specs.World.Event.{Event}
+use Rattle.world_settling.specs.World.Parts.{Dialled, request, by_reader, reads}
+use Rattle.world_settling.specs.World.Worlds.{World, Change, Dial, put, apply}
+use Rattle.world_settling.specs.World.Connections.{place_of}
+use Rattle.world_settling.specs.World.Clients.{reader_dials}
+use Rattle.world_settling.specs.World.Events.{outcome, happens}
+use Rattle.world_settling.specs.WorldNets.Nets.{IsEndOf, held_by, is_over}
+use Rattle.world_settling.specs.WorldNets.Rows.{text_of}
+use Rattle.world_settling.specs.WorldNets.Dials.{DialsBy, IsAccepted, flushes_with, made_net}
+use Rattle.world_settling.proofs.WorldNets.DialLemmas.{dialled-net, sane-stays, ends-made}
+use Rattle.world_settling.proofs.WorldNets.EndLemmas.{same-end}
+use Rattle.world_settling.proofs.WorldNets.StepLemmas.{changed-net, changed-over, next-conn, followed}
+use Rattle.client_events.proofs.MemberEvents.EndLaws.{HeldAt, RoadsAt, Passed, end_from, end_passes}
+use Rattle.client_events.proofs.MemberEvents.FaultEvents.{rises_from}
+use Rattle.client_events.proofs.MemberEvents.MemberLaws.{never}
+use Rattle.client_events.proofs.MemberEvents.WorldLaws.{happened}
+use Rattle.client_events.specs.MemberEvents.Joining.{AcceptsDial}
+use Rattle.client_events.specs.MemberEvents.Showing.{ShowsWorld}
 use Rattle.reader_events.specs.declared.asking.Asked.{Asked}
 use Rattle.reader_events.specs.declared.asking.Asked.TheVariants as left_by
 use Rattle.reader_events.specs.declared.faults.ReaderFault.{ReaderFault}

@@ -7,15 +7,15 @@ use Rattle.hd_base.specs.declared.links.LinkIn as link_in
 use Rattle.hd_base.specs.declared.links.LinkOut as link_out
 use Rattle.hd_base.specs.declared.numbers.ConnId.{ConnId}
 use Rattle.hd_base.specs.declared.roads.Roads as roads
-use Rattle.link_messages.specs.Incomings.{nothing_received}
+use Rattle.visible_read.specs.LinkMessages.Incomings.{nothing_received}
 use Rattle.link_pieces.specs.Pieces.{SendsPiece}
 use Rattle.op_headers.specs.declared.ops.Op.TheVariants as op
 use Rattle.op_headers.specs.declared.ops.ReadOp.{ReadOp}
 use Rattle.op_headers.specs.Requests.{op_text}
-use Rattle.pipe_turns.specs.Acting.{with_half}
-use Rattle.pipe_turns.specs.Turning.{SendsAlone}
-use Rattle.pipe_turns.specs.declared.turning.Done.{Done}
-use Rattle.pipe_turns.specs.declared.turning.Done.TheVariants as done
+use Rattle.visible_read.specs.PipeTurns.Acting.{with_half}
+use Rattle.visible_read.specs.PipeTurns.Turning.{SendsAlone}
+use Rattle.visible_read.specs.PipeTurns.Done.{Done}
+use Rattle.visible_read.specs.PipeTurns.Done.TheVariants as done
 use Rattle.read_core.specs.declared.reading.ReadFault.{ReadFault}
 use Rattle.read_core.specs.Readings.{asked}
 use Rattle.visible_read.specs.declared.reading.Reading.{Reading}
@@ -25,7 +25,7 @@ use Rattle.visible_read.specs.declared.talking.ReadStep.{ReadStep}
 use Rattle.visible_read.specs.declared.talking.ReadStep.TheVariants as step
 use Rattle.visible_read.specs.declared.talking.Talk.{Talk}
 use Rattle.visible_read.specs.Talking.{request_of, Begins, AsksAs, Asks, StepsAs, Steps, without_request}
-use Rattle.member_events.proofs.CauseLaws.{out_failed, one_risen, still_risen}
+use Rattle.client_events.proofs.MemberEvents.CauseLaws.{out_failed, one_risen, still_risen}
 use Rattle.reader_events.specs.declared.faults.ReaderFault.{ReaderFault}
 use Rattle.reader_events.specs.declared.faults.ReaderFault.TheVariants as fault
 use Rattle.reader_events.specs.declared.asking.Asked.{Asked}

@@ -5,13 +5,13 @@ use Rattle.hd_base.specs.declared.numbers.ConnId.{ConnId}
 use Rattle.read_core.specs.declared.reading.ReadPhase.{ReadPhase}
 use Rattle.read_core.specs.declared.reading.ReadPhase.TheVariants as phase
 use Rattle.read_core.specs.Readings.{ReadingState}
-use Rattle.world.specs.Parts.{Message, request, packet, ack, response, read_status, recovery_answer, Reader, reads}
-use Rattle.world.specs.Worlds.{World}
-use Rattle.world.specs.Connections.{Next, message, the_end, next_up}
-use Rattle.world_nets.specs.Drawn.{ComesUp}
+use Rattle.world_settling.specs.World.Parts.{Message, request, packet, ack, response, read_status, recovery_answer, Reader, reads}
+use Rattle.world_settling.specs.World.Worlds.{World}
+use Rattle.world_settling.specs.World.Connections.{Next, message, the_end, next_up}
+use Rattle.world_settling.specs.WorldNets.Drawn.{ComesUp}
 use Rattle.world_orders.specs.Orders.{reading, comes_up}
 use Rattle.world_orders.proofs.AllOrdered.{next-found}
-use Rattle.world_texts.specs.Texts.{SpellsText, Written}
+use Rattle.world_settling.specs.WorldTexts.Texts.{SpellsText, Written}
 use Rattle.reader_events.specs.Hearing.{IsNextIn, IsNextOf, CanHear}
 use Rattle.reader_events.specs.Orders.{has_answer, HasTaken, ReadersTakeInOrder}
 

@@ -10,12 +10,12 @@ use Rattle.hd_base.specs.declared.links.LinkOut as link_out
 use Rattle.hd_base.specs.declared.numbers.ConnId.{ConnId}
 use Rattle.hd_base.specs.declared.roads.Roads as roads
 use Rattle.hd_base.specs.declared.states.Status.TheVariants as status
-use Rattle.link_messages.specs.Incomings.{IncomingState, nothing_received}
+use Rattle.visible_read.specs.LinkMessages.Incomings.{IncomingState, nothing_received}
 use Rattle.link_pieces.specs.Roads.{BringsEnd}
-use Rattle.pipe_turns.specs.Acting.{ShutsBy, with_half}
-use Rattle.pipe_turns.specs.Turning.{SendsAlone}
-use Rattle.pipe_turns.specs.declared.turning.Done.{Done}
-use Rattle.pipe_turns.specs.declared.turning.Done.TheVariants as done
+use Rattle.visible_read.specs.PipeTurns.Acting.{ShutsBy, with_half}
+use Rattle.visible_read.specs.PipeTurns.Turning.{SendsAlone}
+use Rattle.visible_read.specs.PipeTurns.Done.{Done}
+use Rattle.visible_read.specs.PipeTurns.Done.TheVariants as done
 use Rattle.read_core.specs.declared.reading.ReadFault.{ReadFault}
 use Rattle.read_core.specs.declared.reading.ReadTurn.{ReadTurn}
 use Rattle.read_core.specs.declared.reading.ReadTurn.TheVariants as turn
@@ -30,22 +30,22 @@ use Rattle.visible_read.specs.declared.talking.ReadStep.{ReadStep}
 use Rattle.visible_read.specs.declared.talking.ReadStep.TheVariants as step
 use Rattle.visible_read.specs.declared.talking.Talk.{Talk}
 use Rattle.visible_read.specs.Talking.{checksum_ok, request_of, GivesBytes, VerifiesAs, TakesAs, Takes, StepsAs, Listens, Steps, out_of, with_received, with_inward}
-use Rattle.world.specs.declared.events.Event.TheVariants as event
-use Rattle.world.specs.Parts.{Message, read_status, Reader, reads, has_read}
-use Rattle.world.specs.Worlds.{World, Change, apply}
-use Rattle.world.specs.Connections.{Next, up_taken}
-use Rattle.world.specs.Clients.{from_node_of, reader_turn}
-use Rattle.world.specs.Events.{outcome, happens}
-use Rattle.world_nets.specs.Rows.{text_of}
-use Rattle.world_nets.specs.Nets.{IsNetOf, IsEndOf, held_by, inbox_for, is_over}
-use Rattle.world_nets.specs.Flushing.{upper_flushes}
-use Rattle.world_nets.specs.Steps.{SendsBy, TakesNet, taken_net, is_end}
-use Rattle.world_nets.proofs.EndLemmas.{stays, same-end}
-use Rattle.world_nets.proofs.StepLemmas.{changed-net, changed-over, taken-net, taken-over, lost-net, followed}
-use Rattle.member_events.proofs.CauseLaws.{in_failed, out_failed, still_risen}
-use Rattle.member_events.proofs.DownEvents.{held_took}
-use Rattle.member_events.proofs.EndLaws.{HeldAt, RoadsAt, Passed, end_held, end_from, end_passes, end_brought}
-use Rattle.member_events.proofs.WorldLaws.{at_put, happened}
+use Rattle.world_settling.specs.World.Event.TheVariants as event
+use Rattle.world_settling.specs.World.Parts.{Message, read_status, Reader, reads, has_read}
+use Rattle.world_settling.specs.World.Worlds.{World, Change, apply}
+use Rattle.world_settling.specs.World.Connections.{Next, up_taken}
+use Rattle.world_settling.specs.World.Clients.{from_node_of, reader_turn}
+use Rattle.world_settling.specs.World.Events.{outcome, happens}
+use Rattle.world_settling.specs.WorldNets.Rows.{text_of}
+use Rattle.world_settling.specs.WorldNets.Nets.{IsNetOf, IsEndOf, held_by, inbox_for, is_over}
+use Rattle.world_settling.specs.WorldNets.Flushing.{upper_flushes}
+use Rattle.world_settling.specs.WorldNets.Steps.{SendsBy, TakesNet, taken_net, is_end}
+use Rattle.world_settling.proofs.WorldNets.EndLemmas.{stays, same-end}
+use Rattle.world_settling.proofs.WorldNets.StepLemmas.{changed-net, changed-over, taken-net, taken-over, lost-net, followed}
+use Rattle.client_events.proofs.MemberEvents.CauseLaws.{in_failed, out_failed, still_risen}
+use Rattle.client_events.proofs.MemberEvents.DownEvents.{held_took}
+use Rattle.client_events.proofs.MemberEvents.EndLaws.{HeldAt, RoadsAt, Passed, end_held, end_from, end_passes, end_brought}
+use Rattle.client_events.proofs.MemberEvents.WorldLaws.{at_put, happened}
 use Rattle.reader_events.specs.declared.faults.ReaderFault.{ReaderFault}
 use Rattle.reader_events.specs.declared.faults.ReaderFault.TheVariants as fault
 use Rattle.reader_events.specs.declared.hearing.Heard.{Heard}

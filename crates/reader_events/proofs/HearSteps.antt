@@ -14,13 +14,13 @@ use Rattle.ack_codec.specs.ResponseTexts.{response_text}
 use Rattle.ack_codec.specs.declared.responses.Response.{Response}
 use Rattle.packet_codec.specs.Packets.{packet_text}
 use Rattle.packet_codec.specs.declared.packets.Packet.{Packet}
-use Rattle.frame_feed.specs.Kinds.{responses, packets}
-use Rattle.frame_feed.specs.KindLaws.{responses_sound, packets_sound}
-use Rattle.link_messages.specs.declared.incoming.Next as nexts
-use Rattle.link_messages.specs.declared.incoming.Next.TheVariants as next
-use Rattle.link_messages.specs.Incomings.{IncomingState, nothing_received, NextEnds}
-use Rattle.pipe_member.specs.declared.stages.Looked.TheVariants as looked
-use Rattle.pipe_member.specs.Looks.{looked_of}
+use Rattle.visible_read.specs.FrameFeed.Kinds.{responses, packets}
+use Rattle.visible_read.specs.FrameFeed.KindLaws.{responses_sound, packets_sound}
+use Rattle.visible_read.specs.LinkMessages.Next as nexts
+use Rattle.visible_read.specs.LinkMessages.Next.TheVariants as next
+use Rattle.visible_read.specs.LinkMessages.Incomings.{IncomingState, nothing_received, NextEnds}
+use Rattle.client_events.specs.PipeMember.Looked.TheVariants as looked
+use Rattle.client_events.specs.PipeMember.Looks.{looked_of}
 use Rattle.read_core.specs.declared.reading.ReadFault.{ReadFault}
 use Rattle.read_core.specs.declared.reading.ReadPhase.{ReadPhase}
 use Rattle.read_core.specs.declared.reading.ReadPhase.TheVariants as phase
@@ -30,14 +30,14 @@ use Rattle.visible_read.specs.Talking.{checksum_ok, Fails, Takes, Follows, Liste
 use Rattle.visible_read.specs.declared.talking.ReadFault.TheVariants as ended
 use Rattle.visible_read.specs.declared.talking.ReadStep.{ReadStep}
 use Rattle.visible_read.specs.declared.talking.Talk.{Talk}
-use Rattle.world.specs.Parts.{packet, response, read_status}
-use Rattle.world.specs.Connections.{Next, message, the_end}
-use Rattle.world.specs.Clients.{from_node_of}
-use Rattle.world_nets.specs.Nets.{held_by, inbox_for}
-use Rattle.world_nets.specs.Rows.{text_of}
-use Rattle.world_nets.specs.Steps.{is_end}
-use Rattle.member_events.proofs.CauseLaws.{one_risen}
-use Rattle.member_events.proofs.TakeLaws.{message_came, end_came}
+use Rattle.world_settling.specs.World.Parts.{packet, response, read_status}
+use Rattle.world_settling.specs.World.Connections.{Next, message, the_end}
+use Rattle.world_settling.specs.World.Clients.{from_node_of}
+use Rattle.world_settling.specs.WorldNets.Nets.{held_by, inbox_for}
+use Rattle.world_settling.specs.WorldNets.Rows.{text_of}
+use Rattle.world_settling.specs.WorldNets.Steps.{is_end}
+use Rattle.client_events.proofs.MemberEvents.CauseLaws.{one_risen}
+use Rattle.client_events.proofs.MemberEvents.TakeLaws.{message_came, end_came}
 use Rattle.reader_events.specs.declared.faults.ReaderFault.{ReaderFault}
 use Rattle.reader_events.specs.declared.faults.ReaderFault.TheVariants as fault
 use Rattle.reader_events.specs.declared.hearing.Heard.{Heard}

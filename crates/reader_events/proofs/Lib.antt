@@ -7,3 +7,5 @@ pub mod HearLaws
 pub mod AskSteps
 pub mod AskLaws
 pub mod CanHearLaws
+pub mod WorldOrders
+pub mod WorldSettling

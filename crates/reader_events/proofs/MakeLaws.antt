@@ -11,18 +11,18 @@ use Rattle.read_core.specs.declared.reading.ReadTurn.{ReadTurn}
 use Rattle.read_core.specs.declared.reading.ReadTurn.TheVariants as turn
 use Rattle.read_core.specs.Readings.{ReadingState, ReadTaken}
 use Rattle.road_traffic.proofs.TrafficLemmas.{same-itself}
-use Rattle.world.specs.declared.events.Event.TheVariants as event
-use Rattle.world.specs.Parts.{Message, read_status, Reader, no_reader}
-use Rattle.world.specs.Worlds.{World, Change, Dial, dial_at, listed, apply}
-use Rattle.world.specs.Connections.{Next, up_taken, sent_on, is_conn}
-use Rattle.world.specs.Clients.{reader_dials, own_reader_as, reader_turn, reader_up_as}
-use Rattle.world.specs.Events.{outcome, changed, up_as, up_event, upper_up}
-use Rattle.world_nets.specs.Changes.{sent_in, sent_by}
-use Rattle.world_nets.specs.Dials.{DialsBy}
-use Rattle.world_nets.specs.Drawn.{ComesUp}
-use Rattle.world_nets.specs.Flushing.{upper_flushes}
-use Rattle.world_nets.specs.Steps.{ChangesBy, SendsBy}
-use Rattle.world_nets.proofs.FlushingLemmas.{other-number, add-dial}
+use Rattle.world_settling.specs.World.Event.TheVariants as event
+use Rattle.world_settling.specs.World.Parts.{Message, read_status, Reader, no_reader}
+use Rattle.world_settling.specs.World.Worlds.{World, Change, Dial, dial_at, listed, apply}
+use Rattle.world_settling.specs.World.Connections.{Next, up_taken, sent_on, is_conn}
+use Rattle.world_settling.specs.World.Clients.{reader_dials, own_reader_as, reader_turn, reader_up_as}
+use Rattle.world_settling.specs.World.Events.{outcome, changed, up_as, up_event, upper_up}
+use Rattle.world_settling.specs.WorldNets.Changes.{sent_in, sent_by}
+use Rattle.world_settling.specs.WorldNets.Dials.{DialsBy}
+use Rattle.world_settling.specs.WorldNets.Drawn.{ComesUp}
+use Rattle.world_settling.specs.WorldNets.Flushing.{upper_flushes}
+use Rattle.world_settling.specs.WorldNets.Steps.{ChangesBy, SendsBy}
+use Rattle.world_settling.proofs.WorldNets.FlushingLemmas.{other-number, add-dial}
 use Rattle.reader_events.specs.Making.{asks_event, HearsNode, takes_next, ReadersMake, turn_flushes, reader_dial, ReadersSend}
 
 -- EVENTS

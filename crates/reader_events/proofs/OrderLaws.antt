@@ -10,11 +10,11 @@ use Rattle.read_core.specs.declared.reading.ReadPhase.TheVariants as phase
 use Rattle.read_core.specs.declared.reading.ReadTurn.{ReadTurn}
 use Rattle.read_core.specs.declared.reading.ReadTurn.TheVariants as turn
 use Rattle.read_core.specs.Readings.{ReadingState, ReadTaken, answered, accepted, received_as, packet_check, phase_behind, turn_behind, taken_at, take_from}
-use Rattle.world.specs.Parts.{Message, request, packet, ack, response, read_status, recovery_answer, Upper, by_reader, Marks, new_marks, Reader, no_reader, reads, has_read}
-use Rattle.world.specs.Worlds.{World, Change}
-use Rattle.world.specs.Connections.{Next, message, the_end, marks_taken}
-use Rattle.world.specs.Clients.{reader_dials, own_reader_as, own_reader, from_node_of, reader_turn, reader_up_as, reader_up}
-use Rattle.world_laws.proofs.FactTables.{when-each}
+use Rattle.world_settling.specs.World.Parts.{Message, request, packet, ack, response, read_status, recovery_answer, Upper, by_reader, Marks, new_marks, Reader, no_reader, reads, has_read}
+use Rattle.world_settling.specs.World.Worlds.{World, Change}
+use Rattle.world_settling.specs.World.Connections.{Next, message, the_end, marks_taken}
+use Rattle.world_settling.specs.World.Clients.{reader_dials, own_reader_as, own_reader, from_node_of, reader_turn, reader_up_as, reader_up}
+use Rattle.world_orders.proofs.WorldLaws.FactTables.{when-each}
 use Rattle.world_orders.specs.Orders.{reading, comes_up, purpose_of, is_first, ReaderIs, Ordered}
 use Rattle.world_orders.proofs.AllOrdered.{next-found}
 use Rattle.world_orders.proofs.Lists.{not-first, first-of}

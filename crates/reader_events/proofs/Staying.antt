@@ -2,9 +2,9 @@
 use Rattle.std.proofs.Common.{◌≡◌, ℕ, Bool, false, List, refl, sym, ◌∙◌, subst}
 use Rattle.std.specs.Prelude.{◌==◌}
 use Rattle.read_core.specs.Readings.{ReadingState}
-use Rattle.world.specs.Parts.{Message, Marks, Reader, no_reader, reads, has_read}
-use Rattle.world.specs.Worlds.{World, Change, ups_with, marks_with, apply}
-use Rattle.world_laws.proofs.FactTables.{if-each}
+use Rattle.world_settling.specs.World.Parts.{Message, Marks, Reader, no_reader, reads, has_read}
+use Rattle.world_settling.specs.World.Worlds.{World, Change, ups_with, marks_with, apply}
+use Rattle.world_orders.proofs.WorldLaws.FactTables.{if-each}
 use Rattle.world_settling.proofs.ReaderNodeAsides.{Stays}
 use Rattle.reader_events.specs.Orders.{HasTaken, IsOpenRead}
 

@@ -11,7 +11,7 @@ use Rattle.hd_base.specs.declared.numbers.NodeId.{NodeId}
 use Rattle.hd_base.specs.declared.roads.Roads as roads
 use Rattle.hd_base.specs.declared.roads.TheConstants.{FIRST_PORT}
 use Rattle.link_pieces.specs.Roads.{ExchangesEnd}
-use Rattle.member_core.specs.declared.requests.TheConstants.{MAX_PORT}
+use Rattle.world_settling.specs.MemberCore.TheConstants.{MAX_PORT}
 use Rattle.op_headers.specs.declared.ops.ReadOp.{ReadOp}
 use Rattle.read_core.specs.declared.reading.ReadFault.TheVariants as read_fault
 use Rattle.road_traffic.specs.Showing.{Net}
@@ -21,12 +21,12 @@ use Rattle.visible_read.specs.declared.talking.ReadFault as reading_fault
 use Rattle.visible_read.specs.declared.talking.ReadStep.{ReadStep}
 use Rattle.visible_read.specs.declared.talking.ReadStep.TheVariants as step
 use Rattle.visible_read.specs.declared.talking.Talk.{Talk}
-use Rattle.world.specs.Parts.{by_reader, no_reader, has_read}
-use Rattle.world.specs.Worlds.{World}
-use Rattle.world.specs.Events.{happens}
-use Rattle.world_nets.specs.Nets.{IsEndOf}
-use Rattle.member_events.specs.Joining.{AcceptsDial}
-use Rattle.member_events.specs.Showing.{ShowsWorld}
+use Rattle.world_settling.specs.World.Parts.{by_reader, no_reader, has_read}
+use Rattle.world_settling.specs.World.Worlds.{World}
+use Rattle.world_settling.specs.World.Events.{happens}
+use Rattle.world_settling.specs.WorldNets.Nets.{IsEndOf}
+use Rattle.client_events.specs.MemberEvents.Joining.{AcceptsDial}
+use Rattle.client_events.specs.MemberEvents.Showing.{ShowsWorld}
 use Rattle.client_events.specs.Showing.{OthersStay}
 use Rattle.reader_events.specs.declared.asking.Asked.{Asked}
 use Rattle.reader_events.specs.declared.asking.Asked.TheVariants as asked

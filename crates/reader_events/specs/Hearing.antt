@@ -19,14 +19,14 @@ use Rattle.visible_read.specs.declared.talking.ReadFault as reading_fault
 use Rattle.visible_read.specs.declared.talking.ReadFault.TheVariants as ended
 use Rattle.visible_read.specs.declared.talking.ReadStep.{ReadStep}
 use Rattle.visible_read.specs.declared.talking.ReadStep.TheVariants as step
-use Rattle.world.specs.declared.events.Event.TheVariants as event
-use Rattle.world.specs.Parts.{packet, response, by_reader, Reader, reads, has_read}
-use Rattle.world.specs.Worlds.{World}
-use Rattle.world.specs.Connections.{Next, message, the_end}
-use Rattle.world.specs.Events.{happens}
-use Rattle.world_nets.specs.Drawn.{ComesUp}
-use Rattle.world_texts.specs.Texts.{SpellsText, Written}
-use Rattle.member_events.specs.Showing.{ShowsWorld}
+use Rattle.world_settling.specs.World.Event.TheVariants as event
+use Rattle.world_settling.specs.World.Parts.{packet, response, by_reader, Reader, reads, has_read}
+use Rattle.world_settling.specs.World.Worlds.{World}
+use Rattle.world_settling.specs.World.Connections.{Next, message, the_end}
+use Rattle.world_settling.specs.World.Events.{happens}
+use Rattle.world_settling.specs.WorldNets.Drawn.{ComesUp}
+use Rattle.world_settling.specs.WorldTexts.Texts.{SpellsText, Written}
+use Rattle.client_events.specs.MemberEvents.Showing.{ShowsWorld}
 use Rattle.client_events.specs.Showing.{OthersStay}
 use Rattle.reader_events.specs.declared.faults.ReaderFault.{ReaderFault}
 use Rattle.reader_events.specs.declared.faults.ReaderFault.TheVariants as fault

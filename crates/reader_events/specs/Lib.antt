@@ -4,3 +4,10 @@ pub mod Orders
 pub mod Showing
 pub mod Hearing
 pub mod Asking
+pub mod ClientEvents
+pub mod MemberEvents
+pub mod ReadCore
+pub mod VisibleRead
+pub mod WorldOrders
+pub mod WorldTexts
+pub mod WriterCore

@@ -8,19 +8,19 @@ use Rattle.op_headers.specs.declared.ops.ReadOp.{ReadOp}
 use Rattle.read_core.specs.declared.reading.ReadTurn.{ReadTurn}
 use Rattle.read_core.specs.declared.reading.ReadTurn.TheVariants as turn
 use Rattle.read_core.specs.Readings.{ReadingState, ReadTaken, take_from}
-use Rattle.world.specs.declared.events.Event.{Event}
-use Rattle.world.specs.declared.events.Event.TheVariants as event
-use Rattle.world.specs.declared.events.OwnStep.TheVariants as own
-use Rattle.world.specs.Parts.{request, read_status, by_reader, no_reader, reads}
-use Rattle.world.specs.Worlds.{World, Change, Dial, apply}
-use Rattle.world.specs.Connections.{Next, up_taken, place_of}
-use Rattle.world.specs.Clients.{reader_dials, from_node_of, reader_turn, reader_takes}
-use Rattle.world.specs.Events.{outcome}
-use Rattle.world_nets.specs.Changes.{Flush}
-use Rattle.world_nets.specs.Dials.{DialsBy}
-use Rattle.world_nets.specs.Drawn.{ComesUp}
-use Rattle.world_nets.specs.Flushing.{upper_flushes}
-use Rattle.world_nets.specs.Steps.{SendsBy}
+use Rattle.world_settling.specs.World.Event.{Event}
+use Rattle.world_settling.specs.World.Event.TheVariants as event
+use Rattle.world_settling.specs.World.OwnStep.TheVariants as own
+use Rattle.world_settling.specs.World.Parts.{request, read_status, by_reader, no_reader, reads}
+use Rattle.world_settling.specs.World.Worlds.{World, Change, Dial, apply}
+use Rattle.world_settling.specs.World.Connections.{Next, up_taken, place_of}
+use Rattle.world_settling.specs.World.Clients.{reader_dials, from_node_of, reader_turn, reader_takes}
+use Rattle.world_settling.specs.World.Events.{outcome}
+use Rattle.world_settling.specs.WorldNets.Changes.{Flush}
+use Rattle.world_settling.specs.WorldNets.Dials.{DialsBy}
+use Rattle.world_settling.specs.WorldNets.Drawn.{ComesUp}
+use Rattle.world_settling.specs.WorldNets.Flushing.{upper_flushes}
+use Rattle.world_settling.specs.WorldNets.Steps.{SendsBy}
 
 -- EVENTS
 

@@ -3,11 +3,11 @@ use Rattle.std.specs.Prelude.{◌≡◌, ℕ, ◌<◌, not, Bool, true, false, L
 use Rattle.read_core.specs.declared.reading.ReadPhase.{ReadPhase}
 use Rattle.read_core.specs.declared.reading.ReadPhase.TheVariants as phase
 use Rattle.read_core.specs.Readings.{ReadingState}
-use Rattle.world.specs.declared.events.Event.{Event}
-use Rattle.world.specs.Parts.{Message, by_reader, Marks, reads}
-use Rattle.world.specs.Worlds.{World, start}
-use Rattle.world.specs.Connections.{message, next_up}
-use Rattle.world.specs.Events.{run}
+use Rattle.world_settling.specs.World.Event.{Event}
+use Rattle.world_settling.specs.World.Parts.{Message, by_reader, Marks, reads}
+use Rattle.world_settling.specs.World.Worlds.{World, start}
+use Rattle.world_settling.specs.World.Connections.{message, next_up}
+use Rattle.world_settling.specs.World.Events.{run}
 use Rattle.world_orders.specs.Orders.{reading, comes_up}
 
 -- the answer was taken

@@ -3,15 +3,15 @@ use Rattle.std.specs.Prelude.{◌≡◌, ℕ, false, None, Some}
 use Rattle.hd_base.specs.declared.links.LinkIn as link_in
 use Rattle.hd_base.specs.declared.links.LinkOut as link_out
 use Rattle.hd_base.specs.declared.roads.Roads as roads
-use Rattle.link_messages.specs.Incomings.{nothing_received}
+use Rattle.visible_read.specs.LinkMessages.Incomings.{nothing_received}
 use Rattle.read_core.specs.Readings.{ReadingState}
 use Rattle.road_traffic.specs.Showing.{Net}
 use Rattle.visible_read.specs.Talking.{request_of}
 use Rattle.visible_read.specs.declared.reading.Reading.{Reading}
-use Rattle.world.specs.Parts.{reads}
-use Rattle.world.specs.Worlds.{World}
-use Rattle.world_nets.specs.Nets.{IsEndOf, is_over}
-use Rattle.member_events.specs.Showing.{ShowsWorld}
+use Rattle.world_settling.specs.World.Parts.{reads}
+use Rattle.world_settling.specs.World.Worlds.{World}
+use Rattle.world_settling.specs.WorldNets.Nets.{IsEndOf, is_over}
+use Rattle.client_events.specs.MemberEvents.Showing.{ShowsWorld}
 use Rattle.reader_events.specs.Orders.{has_answer}
 
 -- A read whose request was sent is that of the reader with this number. Nothing was received on its connection that

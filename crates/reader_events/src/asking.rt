@@ -3,7 +3,7 @@
 ghost use Rattle.std.specs.Prelude.{◌≡◌, true, is_some, IfOk};
 ghost use Rattle.hd_base.specs.Ends.{IsKnown};
 ghost use Rattle.visible_read.specs.Talking.{FitsRequest};
-ghost use Rattle.member_events.specs.Roads.{RoadsPass};
+ghost use Rattle.client_events.specs.MemberEvents.Roads.{RoadsPass};
 ghost use Rattle.reader_events.specs.Asking.{
   AskShows,
   AskedIsKnown,
@@ -19,10 +19,10 @@ ghost use Rattle.reader_events.specs.Asking.{
 use crate::faults::{ReaderFault, road_fault};
 use crate::hearing::given_back;
 use hd_base::{Conn, FIRST_PORT, LinkIn, LinkOut, NodeId, RoadError, Roads};
-use member_core::MAX_PORT;
 use op_headers::ReadOp;
 use std::alloc::Global;
 use visible_read::{ReadStep, Reading};
+use world_settling::MAX_PORT;
 
 /// How a new reader asked a node.
 #[derive(Drop)]

@@ -2,7 +2,7 @@
 
 ghost use Rattle.std.specs.Prelude.{◌≡◌, true, is_some, IfOk};
 ghost use Rattle.hd_base.specs.Ends.{IsKnown};
-ghost use Rattle.member_events.specs.Roads.{RoadsPass};
+ghost use Rattle.client_events.specs.MemberEvents.Roads.{RoadsPass};
 ghost use Rattle.reader_events.specs.Hearing.{
   HearShows,
   HeardIsKnown,

@@ -11,3 +11,5 @@ pub use asking::{Asked, ask};
 pub use faults::ReaderFault;
 pub use hearing::{Heard, hear};
 pub use laws::{readers_can_hear, readers_make, readers_send, readers_take_in_order};
+pub use read_core::ReadFault;
+pub use visible_read::Reading;

@@ -6,34 +6,34 @@ use Rattle.hd_base.specs.declared.links.LinkIn as link_in
 use Rattle.hd_base.specs.declared.links.LinkOut as link_out
 use Rattle.hd_base.specs.declared.numbers.ConnId.{ConnId}
 use Rattle.hd_base.specs.declared.roads.Roads as roads
-use Rattle.link_messages.specs.Incomings.{IncomingState, nothing_received}
+use Rattle.block_recovery.specs.LinkMessages.Incomings.{IncomingState, nothing_received}
 use Rattle.link_pieces.specs.Pieces.{SendsPiece}
 use Rattle.link_pieces.specs.Roads.{ExchangesEnd}
 use Rattle.op_headers.specs.declared.answers.RecoveryAnswer.{RecoveryAnswer}
 use Rattle.op_headers.specs.declared.ops.RecoveryOp.{RecoveryOp}
 use Rattle.op_headers.specs.Answers.{answer_text}
-use Rattle.recovery_core.specs.Members.{Served, recovery_event, serve, serve_faulted, answer_of}
+use Rattle.block_recovery.specs.RecoveryCore.Members.{Served, recovery_event, serve, serve_faulted, answer_of}
 use Rattle.replica_core.specs.declared.events.Event.{Event}
-use Rattle.replica_model.specs.declared.events.ReplicaEvent.TheVariants as replica_event
-use Rattle.replica_model.specs.Rows.{FullReplica}
-use Rattle.replica_files.specs.declared.book_state.BookState.{BookState}
-use Rattle.replica_files.specs.Books.{replica_of}
+use Rattle.block_recovery.specs.ReplicaModel.ReplicaEvent.TheVariants as replica_event
+use Rattle.block_recovery.specs.ReplicaModel.Rows.{FullReplica}
+use Rattle.block_recovery.specs.ReplicaFiles.BookState.{BookState}
+use Rattle.block_recovery.specs.ReplicaFiles.Books.{replica_of}
 use Rattle.road_traffic.specs.Showing.{Net, exchanged_net}
 use Rattle.block_recovery.specs.declared.serving.RecoveryServed.{RecoveryServed}
 use Rattle.block_recovery.specs.declared.serving.RecoveryServed.TheVariants as served
 use Rattle.block_recovery.specs.Serving.{ServesAs}
 use Rattle.block_recovery.specs.Telling.{SendsAnswer, answer_in}
-use Rattle.world.specs.declared.events.Delivery.TheVariants as delivery
-use Rattle.world.specs.declared.events.Event as happening
-use Rattle.world.specs.declared.events.Event.TheVariants as event
-use Rattle.world.specs.Parts.{recovery_answer, Break}
-use Rattle.world.specs.Worlds.{World, Change, apply}
-use Rattle.world.specs.Connections.{down_taken}
-use Rattle.world.specs.Nodes.{node_of, replica_at, broke_at, recovery_change}
-use Rattle.world.specs.Events.{outcome, happens}
-use Rattle.world_nets.specs.Drawn.{ComesDown}
-use Rattle.world_nets.specs.Nets.{IsNetOf, IsEndOf, held_by, is_over}
-use Rattle.world_nets.proofs.StepLemmas.{changed-over, followed}
+use Rattle.world_orders.specs.World.Delivery.TheVariants as delivery
+use Rattle.world_orders.specs.World.Event as happening
+use Rattle.world_orders.specs.World.Event.TheVariants as event
+use Rattle.world_orders.specs.World.Parts.{recovery_answer, Break}
+use Rattle.world_orders.specs.World.Worlds.{World, Change, apply}
+use Rattle.world_orders.specs.World.Connections.{down_taken}
+use Rattle.world_orders.specs.World.Nodes.{node_of, replica_at, broke_at, recovery_change}
+use Rattle.world_orders.specs.World.Events.{outcome, happens}
+use Rattle.member_events.specs.WorldNets.Drawn.{ComesDown}
+use Rattle.member_events.specs.WorldNets.Nets.{IsNetOf, IsEndOf, held_by, is_over}
+use Rattle.member_events.proofs.WorldNets.StepLemmas.{changed-over, followed}
 use Rattle.member_events.specs.Showing.{ShowsWorld}
 use Rattle.member_events.specs.Texts.{SpellUp}
 use Rattle.member_events.proofs.EndLaws.{HeldAt, end_held, end_from, end_sends, end_passes}

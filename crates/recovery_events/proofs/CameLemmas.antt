@@ -5,30 +5,30 @@ use Rattle.hd_base.specs.declared.ends.Conn.{Conn}
 use Rattle.hd_base.specs.declared.links.LinkIn as link_in
 use Rattle.hd_base.specs.declared.links.LinkOut as link_out
 use Rattle.hd_base.specs.declared.roads.Roads as roads
-use Rattle.frame_feed.specs.Kinds.{requests}
-use Rattle.frame_feed.specs.KindLaws.{requests_sound}
-use Rattle.link_messages.specs.declared.incoming.Next as link
-use Rattle.link_messages.specs.declared.incoming.Next.TheVariants as next
-use Rattle.link_messages.specs.Incomings.{IncomingState, nothing_received, NextEnds}
+use Rattle.block_recovery.specs.FrameFeed.Kinds.{requests}
+use Rattle.block_recovery.specs.FrameFeed.KindLaws.{requests_sound}
+use Rattle.block_recovery.specs.LinkMessages.Next as link
+use Rattle.block_recovery.specs.LinkMessages.Next.TheVariants as next
+use Rattle.block_recovery.specs.LinkMessages.Incomings.{IncomingState, nothing_received, NextEnds}
 use Rattle.link_pieces.specs.Roads.{names, ExchangesEnd}
 use Rattle.op_headers.specs.declared.ops.Op.{Op}
 use Rattle.op_headers.specs.declared.ops.Op.TheVariants as op
 use Rattle.op_headers.specs.declared.ops.RecoveryOp.{RecoveryOp}
-use Rattle.pipe_member.specs.declared.stages.Looked.TheVariants as looked
-use Rattle.pipe_member.specs.Looks.{looked_of}
+use Rattle.member_events.specs.PipeMember.Looked.TheVariants as looked
+use Rattle.member_events.specs.PipeMember.Looks.{looked_of}
 use Rattle.road_traffic.specs.Showing.{Net}
 use Rattle.road_traffic.proofs.TrafficLemmas.{same-itself}
 use Rattle.block_recovery.specs.declared.taking.RecoveryCame.{RecoveryCame}
 use Rattle.block_recovery.specs.declared.taking.RecoveryCame.TheVariants as came
 use Rattle.block_recovery.specs.Taking.{came_of, TakesRequest}
-use Rattle.world.specs.Parts.{request}
-use Rattle.world.specs.Worlds.{World}
-use Rattle.world.specs.Connections.{Next, message, the_end, down_taken}
-use Rattle.world_nets.specs.Drawn.{ComesDown}
-use Rattle.world_nets.specs.Nets.{IsNetOf, IsEndOf, held_by, inbox_for, is_over}
-use Rattle.world_nets.specs.Rows.{text_of}
-use Rattle.world_nets.specs.Steps.{taken_net, is_end}
-use Rattle.world_nets.proofs.StepLemmas.{taken-net}
+use Rattle.world_orders.specs.World.Parts.{request}
+use Rattle.world_orders.specs.World.Worlds.{World}
+use Rattle.world_orders.specs.World.Connections.{Next, message, the_end, down_taken}
+use Rattle.member_events.specs.WorldNets.Drawn.{ComesDown}
+use Rattle.member_events.specs.WorldNets.Nets.{IsNetOf, IsEndOf, held_by, inbox_for, is_over}
+use Rattle.member_events.specs.WorldNets.Rows.{text_of}
+use Rattle.member_events.specs.WorldNets.Steps.{taken_net, is_end}
+use Rattle.member_events.proofs.WorldNets.StepLemmas.{taken-net}
 use Rattle.member_events.specs.Showing.{ShowsWorld}
 use Rattle.member_events.proofs.DownEvents.{held_took}
 use Rattle.member_events.proofs.EndLaws.{HeldAt, RoadsAt, end_held, end_passes}

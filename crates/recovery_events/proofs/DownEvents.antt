@@ -6,34 +6,34 @@ use Rattle.hd_base.specs.declared.links.LinkIn as link_in
 use Rattle.hd_base.specs.declared.links.LinkOut as link_out
 use Rattle.hd_base.specs.declared.numbers.ConnId.{ConnId}
 use Rattle.hd_base.specs.declared.roads.Roads as roads
-use Rattle.frame_feed.specs.Kinds.{requests}
-use Rattle.link_messages.specs.declared.incoming.Next as link
-use Rattle.link_messages.specs.declared.incoming.Next.TheVariants as next
-use Rattle.link_messages.specs.Incomings.{IncomingState, nothing_received, NextEnds}
+use Rattle.block_recovery.specs.FrameFeed.Kinds.{requests}
+use Rattle.block_recovery.specs.LinkMessages.Next as link
+use Rattle.block_recovery.specs.LinkMessages.Next.TheVariants as next
+use Rattle.block_recovery.specs.LinkMessages.Incomings.{IncomingState, nothing_received, NextEnds}
 use Rattle.link_pieces.specs.Roads.{names, ExchangesEnd, BringsEnd}
 use Rattle.op_headers.specs.declared.ops.Op.{Op}
 use Rattle.op_headers.specs.declared.ops.Op.TheVariants as op
 use Rattle.op_headers.specs.declared.ops.RecoveryOp.{RecoveryOp}
-use Rattle.pipe_member.specs.declared.stages.Looked.TheVariants as looked
-use Rattle.pipe_member.specs.Looks.{looked_of}
-use Rattle.replica_files.specs.declared.book_state.BookState.{BookState}
+use Rattle.member_events.specs.PipeMember.Looked.TheVariants as looked
+use Rattle.member_events.specs.PipeMember.Looks.{looked_of}
+use Rattle.block_recovery.specs.ReplicaFiles.BookState.{BookState}
 use Rattle.road_traffic.specs.Showing.{Net}
 use Rattle.road_traffic.specs.Laws.{left_net}
 use Rattle.block_recovery.specs.declared.taking.RecoveryCame.{RecoveryCame}
 use Rattle.block_recovery.specs.declared.taking.RecoveryCame.TheVariants as came
 use Rattle.block_recovery.specs.Taking.{TakesRequest}
-use Rattle.world.specs.declared.events.Delivery.TheVariants as delivery
-use Rattle.world.specs.declared.events.Event as happening
-use Rattle.world.specs.declared.events.Event.TheVariants as event
-use Rattle.world.specs.Worlds.{World, apply}
-use Rattle.world.specs.Connections.{Next, down_taken}
-use Rattle.world.specs.Nodes.{closing, replica_at}
-use Rattle.world.specs.Events.{outcome, happens}
-use Rattle.world_nets.specs.Drawn.{ComesDown}
-use Rattle.world_nets.specs.Nets.{IsEndOf, held_by, is_over}
-use Rattle.world_nets.specs.Steps.{taken_net, is_end}
-use Rattle.world_nets.proofs.FlushingLemmas.{closing-sends}
-use Rattle.world_nets.proofs.StepLemmas.{taken-over, changed-over, followed}
+use Rattle.world_orders.specs.World.Delivery.TheVariants as delivery
+use Rattle.world_orders.specs.World.Event as happening
+use Rattle.world_orders.specs.World.Event.TheVariants as event
+use Rattle.world_orders.specs.World.Worlds.{World, apply}
+use Rattle.world_orders.specs.World.Connections.{Next, down_taken}
+use Rattle.world_orders.specs.World.Nodes.{closing, replica_at}
+use Rattle.world_orders.specs.World.Events.{outcome, happens}
+use Rattle.member_events.specs.WorldNets.Drawn.{ComesDown}
+use Rattle.member_events.specs.WorldNets.Nets.{IsEndOf, held_by, is_over}
+use Rattle.member_events.specs.WorldNets.Steps.{taken_net, is_end}
+use Rattle.member_events.proofs.WorldNets.FlushingLemmas.{closing-sends}
+use Rattle.member_events.proofs.WorldNets.StepLemmas.{taken-over, changed-over, followed}
 use Rattle.member_events.specs.Showing.{ShowsWorld, OthersStay}
 use Rattle.member_events.proofs.EndLaws.{HeldAt, end_from, end_sends, end_brought}
 use Rattle.member_events.proofs.NetLaws.{brought_net, other_passed, other_left}

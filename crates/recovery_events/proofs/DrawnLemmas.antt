@@ -4,15 +4,15 @@ use Rattle.std.specs.Prelude.{if◌then◌else◌}
 use Rattle.hd_base.specs.declared.numbers.ConnId.{ConnId}
 use Rattle.op_headers.specs.declared.ops.Op.TheVariants as op
 use Rattle.op_headers.specs.declared.ops.RecoveryOp.{RecoveryOp}
-use Rattle.recovery_core.specs.declared.members.RecoveryReply.{RecoveryReply}
-use Rattle.recovery_core.specs.Members.{recovery_event}
+use Rattle.block_recovery.specs.RecoveryCore.RecoveryReply.{RecoveryReply}
+use Rattle.block_recovery.specs.RecoveryCore.Members.{recovery_event}
 use Rattle.replica_core.specs.declared.events.Event.{Event}
-use Rattle.world.specs.Parts.{request, packet, ack, response, read_status, recovery_answer, Lower, idle, writes, serves, recovers, ended_below}
-use Rattle.world.specs.Worlds.{World, Change}
-use Rattle.world.specs.Connections.{Next, message, the_end, down_taken}
-use Rattle.world.specs.Nodes.{closing, unless_failing, lower_down, next_recovery, recovery_request, failing_recovery}
-use Rattle.world.specs.Events.{outcome, changed, down_as, down_event}
-use Rattle.world_nets.specs.Drawn.{ComesDown}
+use Rattle.world_orders.specs.World.Parts.{request, packet, ack, response, read_status, recovery_answer, Lower, idle, writes, serves, recovers, ended_below}
+use Rattle.world_orders.specs.World.Worlds.{World, Change}
+use Rattle.world_orders.specs.World.Connections.{Next, message, the_end, down_taken}
+use Rattle.world_orders.specs.World.Nodes.{closing, unless_failing, lower_down, next_recovery, recovery_request, failing_recovery}
+use Rattle.world_orders.specs.World.Events.{outcome, changed, down_as, down_event}
+use Rattle.member_events.specs.WorldNets.Drawn.{ComesDown}
 use Rattle.recovery_events.specs.Drawn.{recovery_next, TakesRequests, IsNoRequest, RequestMakes, OtherMakes, RecoveryMakes}
 
 takes : (w : World) (c : ℕ) (answered fails : Bool) (x : Next) → ComesDown w c x → down_event w c answered fails ≡ changed (down_taken w c x) (lower_down (w.lowers c) (down_taken w c x) c x answered fails)

@@ -7,3 +7,5 @@ pub mod CameLemmas
 pub mod AnswerEvents
 pub mod DownEvents
 pub mod CauseLemmas
+pub mod MemberEvents
+pub mod WorldOrders

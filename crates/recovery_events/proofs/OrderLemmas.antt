@@ -3,9 +3,9 @@ use Rattle.std.proofs.Common.{◌≡◌, ℕ, true, slice_get, Some, sym, ap, �
 use Rattle.hd_base.specs.declared.numbers.BlockId.{BlockId}
 use Rattle.op_headers.specs.declared.ops.Op.TheVariants as op
 use Rattle.op_headers.specs.declared.ops.RecoveryOp.{RecoveryOp}
-use Rattle.world.specs.Parts.{Message, request}
-use Rattle.world.specs.Worlds.{World}
-use Rattle.world.specs.Connections.{message, the_end}
+use Rattle.world_orders.specs.World.Parts.{Message, request}
+use Rattle.world_orders.specs.World.Worlds.{World}
+use Rattle.world_orders.specs.World.Connections.{message, the_end}
 use Rattle.world_orders.specs.Orders.{Purpose, recovering, is_recovery, purpose_of, comes_down, is_first, IsBelow, Ordered}
 use Rattle.world_orders.proofs.AllOrdered.{next-found}
 use Rattle.world_recoveries.specs.Recovering.{Agrees}

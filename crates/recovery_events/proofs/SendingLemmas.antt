@@ -4,15 +4,15 @@ use Rattle.std.specs.Prelude.{◌==◌, ◌-◌, ◌||◌, ◌&&◌, cond, nat_l
 use Rattle.std.proofs.lemmas.Bool.{eqb-true}
 use Rattle.std.proofs.lemmas.List.{append-nil}
 use Rattle.op_headers.specs.declared.ops.RecoveryOp.{RecoveryOp}
-use Rattle.recovery_core.specs.Members.{Served}
+use Rattle.block_recovery.specs.RecoveryCore.Members.{Served}
 use Rattle.road_traffic.proofs.TrafficLemmas.{same-itself}
-use Rattle.world.specs.Parts.{Message, Break}
-use Rattle.world.specs.Worlds.{World, Dial, dial_at, listed}
-use Rattle.world.specs.Nodes.{recovery_change}
-use Rattle.world_nets.specs.Changes.{sent_in, sent_by}
-use Rattle.world_nets.specs.Steps.{SendsBy}
-use Rattle.world_nets.specs.Flushing.{lower_flush}
-use Rattle.world_nets.proofs.ChangeLemmas.{flip-false}
+use Rattle.world_orders.specs.World.Parts.{Message, Break}
+use Rattle.world_orders.specs.World.Worlds.{World, Dial, dial_at, listed}
+use Rattle.world_orders.specs.World.Nodes.{recovery_change}
+use Rattle.member_events.specs.WorldNets.Changes.{sent_in, sent_by}
+use Rattle.member_events.specs.WorldNets.Steps.{SendsBy}
+use Rattle.member_events.specs.WorldNets.Flushing.{lower_flush}
+use Rattle.member_events.proofs.WorldNets.ChangeLemmas.{flip-false}
 use Rattle.recovery_events.specs.Sending.{answer_messages}
 
 flip : (a b : ℕ) → (a == b) ≡ (b == a)

@@ -8,22 +8,22 @@ use Rattle.link_pieces.specs.Pieces.{SendsPiece}
 use Rattle.proto_fields.specs.Frames.{limit}
 use Rattle.op_headers.specs.declared.answers.RecoveryAnswer.{RecoveryAnswer}
 use Rattle.op_headers.specs.Answers.{answer_format, answer_text, IsEncodable}
-use Rattle.recovery_core.specs.declared.members.RecoveryReply.{RecoveryReply}
-use Rattle.recovery_core.specs.declared.members.RecoveryReply.TheVariants as reply
-use Rattle.recovery_core.specs.Members.{Served, served_as, serve_faulted, answer_of}
+use Rattle.block_recovery.specs.RecoveryCore.RecoveryReply.{RecoveryReply}
+use Rattle.block_recovery.specs.RecoveryCore.RecoveryReply.TheVariants as reply
+use Rattle.block_recovery.specs.RecoveryCore.Members.{Served, served_as, serve_faulted, answer_of}
 use Rattle.replica_core.specs.declared.events.Event.{Event}
-use Rattle.replica_model.specs.declared.events.ReplicaEvent.{ReplicaEvent}
-use Rattle.replica_model.specs.declared.events.ReplicaEvent.TheVariants as replica_event
-use Rattle.replica_model.specs.Rows.{row}
-use Rattle.replica_files.specs.declared.book_state.BookState.{BookState}
-use Rattle.replica_files.specs.Books.{replica_of}
-use Rattle.replica_files.proofs.BookLemmas.{noted}
+use Rattle.block_recovery.specs.ReplicaModel.ReplicaEvent.{ReplicaEvent}
+use Rattle.block_recovery.specs.ReplicaModel.ReplicaEvent.TheVariants as replica_event
+use Rattle.block_recovery.specs.ReplicaModel.Rows.{row}
+use Rattle.block_recovery.specs.ReplicaFiles.BookState.{BookState}
+use Rattle.block_recovery.specs.ReplicaFiles.Books.{replica_of}
+use Rattle.block_recovery.proofs.ReplicaFiles.BookLemmas.{noted}
 use Rattle.block_recovery.specs.declared.serving.RecoveryServed.TheVariants as served
 use Rattle.block_recovery.specs.Serving.{IsBooked, ServesAs}
 use Rattle.block_recovery.specs.Telling.{SendsAnswer}
-use Rattle.world.specs.Parts.{Message, recovery_answer}
-use Rattle.world.specs.Worlds.{World}
-use Rattle.world_texts.specs.Texts.{SpellsText}
+use Rattle.world_orders.specs.World.Parts.{Message, recovery_answer}
+use Rattle.world_orders.specs.World.Worlds.{World}
+use Rattle.member_events.specs.WorldTexts.Texts.{SpellsText}
 use Rattle.member_events.specs.Texts.{SpellUp}
 use Rattle.member_events.proofs.StepLaws.{spelled_within, fits_within, last_of}
 

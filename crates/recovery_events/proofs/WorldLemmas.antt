@@ -3,12 +3,12 @@ use Rattle.std.proofs.Common.{◌≡◌, ℕ, ◌-◌, ◌&&◌, Bool, true, fal
 use Rattle.std.specs.Prelude.{◌==◌, nat_le, unwrap_or}
 use Rattle.std.proofs.lemmas.Bool.{eqb-true}
 use Rattle.op_headers.specs.declared.ops.RecoveryOp.{RecoveryOp}
-use Rattle.recovery_core.specs.Members.{Served}
-use Rattle.world.specs.declared.events.Event.{Event}
-use Rattle.world.specs.Parts.{Message, Break, Dialled, recovers, ended_below}
-use Rattle.world.specs.Worlds.{World, Dial, put_at, apply}
-use Rattle.world.specs.Nodes.{node_of, replica_at, closing, recovery_change}
-use Rattle.world.specs.Events.{outcome, happens}
+use Rattle.block_recovery.specs.RecoveryCore.Members.{Served}
+use Rattle.world_orders.specs.World.Event.{Event}
+use Rattle.world_orders.specs.World.Parts.{Message, Break, Dialled, recovers, ended_below}
+use Rattle.world_orders.specs.World.Worlds.{World, Dial, put_at, apply}
+use Rattle.world_orders.specs.World.Nodes.{node_of, replica_at, closing, recovery_change}
+use Rattle.world_orders.specs.World.Events.{outcome, happens}
 use Rattle.member_events.proofs.WorldLaws.{at_put, at_put_at, sent_here, happened}
 use Rattle.recovery_events.specs.Drawn.{asked_block}
 use Rattle.recovery_events.specs.Sending.{answer_messages}

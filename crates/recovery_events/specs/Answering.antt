@@ -7,7 +7,7 @@ use Rattle.hd_base.specs.declared.links.LinkOut as link_out
 use Rattle.hd_base.specs.declared.roads.Roads as roads
 use Rattle.link_pieces.specs.Roads.{ExchangesEnd, BringsEnd}
 use Rattle.op_headers.specs.declared.ops.RecoveryOp.{RecoveryOp}
-use Rattle.replica_files.specs.declared.book_state.BookState.{BookState}
+use Rattle.block_recovery.specs.ReplicaFiles.BookState.{BookState}
 use Rattle.block_recovery.specs.declared.serving.RecoveryServed.{RecoveryServed}
 use Rattle.block_recovery.specs.declared.taking.RecoveryCame.{RecoveryCame}
 use Rattle.block_recovery.specs.declared.taking.RecoveryCame.TheVariants as came

@@ -3,18 +3,18 @@ use Rattle.std.specs.Prelude.{◌≡◌, ℕ, Bool, Some, None, Ok, Err}
 use Rattle.hd_base.specs.declared.numbers.ConnId.{ConnId}
 use Rattle.op_headers.specs.declared.ops.Op.TheVariants as op
 use Rattle.op_headers.specs.declared.ops.RecoveryOp.{RecoveryOp}
-use Rattle.recovery_core.specs.declared.members.RecoveryReply.{RecoveryReply}
-use Rattle.recovery_core.specs.Members.{recovery_event, serve, serve_faulted}
+use Rattle.block_recovery.specs.RecoveryCore.RecoveryReply.{RecoveryReply}
+use Rattle.block_recovery.specs.RecoveryCore.Members.{recovery_event, serve, serve_faulted}
 use Rattle.replica_core.specs.declared.events.Event.{Event}
-use Rattle.replica_model.specs.declared.events.ReplicaEvent.TheVariants as replica_event
-use Rattle.world.specs.declared.events.Delivery.TheVariants as delivery
-use Rattle.world.specs.declared.events.Event.TheVariants as event
-use Rattle.world.specs.Parts.{request, Lower, idle, recovers}
-use Rattle.world.specs.Worlds.{World, Change, apply}
-use Rattle.world.specs.Connections.{Next, message, down_taken}
-use Rattle.world.specs.Nodes.{closing, recovery_change, replica_at, node_of, broke_at}
-use Rattle.world.specs.Events.{outcome}
-use Rattle.world_nets.specs.Drawn.{ComesDown}
+use Rattle.block_recovery.specs.ReplicaModel.ReplicaEvent.TheVariants as replica_event
+use Rattle.world_orders.specs.World.Delivery.TheVariants as delivery
+use Rattle.world_orders.specs.World.Event.TheVariants as event
+use Rattle.world_orders.specs.World.Parts.{request, Lower, idle, recovers}
+use Rattle.world_orders.specs.World.Worlds.{World, Change, apply}
+use Rattle.world_orders.specs.World.Connections.{Next, message, down_taken}
+use Rattle.world_orders.specs.World.Nodes.{closing, recovery_change, replica_at, node_of, broke_at}
+use Rattle.world_orders.specs.World.Events.{outcome}
+use Rattle.member_events.specs.WorldNets.Drawn.{ComesDown}
 
 -- CHANGES
 

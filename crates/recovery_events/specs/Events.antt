@@ -6,23 +6,23 @@ use Rattle.hd_base.specs.declared.links.LinkIn as link_in
 use Rattle.hd_base.specs.declared.links.LinkOut as link_out
 use Rattle.hd_base.specs.declared.numbers.ConnId.{ConnId}
 use Rattle.hd_base.specs.declared.roads.Roads as roads
-use Rattle.link_messages.specs.Incomings.{IncomingState, nothing_received}
+use Rattle.block_recovery.specs.LinkMessages.Incomings.{IncomingState, nothing_received}
 use Rattle.op_headers.specs.declared.ops.Op.{Op}
 use Rattle.op_headers.specs.declared.ops.Op.TheVariants as op
 use Rattle.op_headers.specs.declared.ops.RecoveryOp.{RecoveryOp}
-use Rattle.replica_files.specs.declared.book_state.BookState.{BookState}
-use Rattle.replica_files.specs.Books.{replica_of}
+use Rattle.block_recovery.specs.ReplicaFiles.BookState.{BookState}
+use Rattle.block_recovery.specs.ReplicaFiles.Books.{replica_of}
 use Rattle.road_traffic.specs.Showing.{Net}
-use Rattle.world.specs.declared.events.Delivery.TheVariants as delivery
-use Rattle.world.specs.declared.events.Event.TheVariants as event
-use Rattle.world.specs.Parts.{request, idle, recovers, ended_below}
-use Rattle.world.specs.Worlds.{World}
-use Rattle.world.specs.Connections.{Next, message, the_end, down_taken}
-use Rattle.world.specs.Nodes.{replica_at}
-use Rattle.world.specs.Events.{happens}
-use Rattle.world_nets.specs.Drawn.{ComesDown}
-use Rattle.world_nets.specs.Nets.{IsEndOf}
-use Rattle.world_texts.specs.Texts.{SpellsText}
+use Rattle.world_orders.specs.World.Delivery.TheVariants as delivery
+use Rattle.world_orders.specs.World.Event.TheVariants as event
+use Rattle.world_orders.specs.World.Parts.{request, idle, recovers, ended_below}
+use Rattle.world_orders.specs.World.Worlds.{World}
+use Rattle.world_orders.specs.World.Connections.{Next, message, the_end, down_taken}
+use Rattle.world_orders.specs.World.Nodes.{replica_at}
+use Rattle.world_orders.specs.World.Events.{happens}
+use Rattle.member_events.specs.WorldNets.Drawn.{ComesDown}
+use Rattle.member_events.specs.WorldNets.Nets.{IsEndOf}
+use Rattle.member_events.specs.WorldTexts.Texts.{SpellsText}
 use Rattle.member_events.specs.Showing.{ShowsWorld, OthersStay}
 use Rattle.member_events.specs.Texts.{SpellUp}
 use Rattle.recovery_events.specs.declared.answering.Outcome.{Outcome}

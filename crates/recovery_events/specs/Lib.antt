@@ -6,3 +6,9 @@ pub mod Drawn
 pub mod Sending
 pub mod Orders
 pub mod Events
+pub mod LinkMessages
+pub mod MemberEvents
+pub mod RecoveryCore
+pub mod ReplicaFiles
+pub mod WorldOrders
+pub mod WorldTexts

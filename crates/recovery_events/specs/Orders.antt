@@ -2,11 +2,11 @@
 use Rattle.std.specs.Prelude.{◌≡◌, ℕ, List, slice_get, Some}
 use Rattle.op_headers.specs.declared.ops.Op.TheVariants as op
 use Rattle.op_headers.specs.declared.ops.RecoveryOp.{RecoveryOp}
-use Rattle.world.specs.declared.events.Event.{Event}
-use Rattle.world.specs.Parts.{request, recovers}
-use Rattle.world.specs.Worlds.{World, start}
-use Rattle.world.specs.Connections.{Next, message, the_end, next_down}
-use Rattle.world.specs.Events.{run}
+use Rattle.world_orders.specs.World.Event.{Event}
+use Rattle.world_orders.specs.World.Parts.{request, recovers}
+use Rattle.world_orders.specs.World.Worlds.{World, start}
+use Rattle.world_orders.specs.World.Connections.{Next, message, the_end, next_down}
+use Rattle.world_orders.specs.World.Events.{run}
 use Rattle.recovery_events.specs.Drawn.{recovery_next, asked_block}
 
 -- A request of a recovery, or the end.

@@ -4,7 +4,7 @@ use Rattle.hd_base.specs.Faults.{FaultsIncreased}
 use Rattle.hd_base.specs.declared.files.Files as files
 use Rattle.block_recovery.specs.declared.serving.RecoveryServed.{RecoveryServed}
 use Rattle.block_recovery.specs.declared.serving.RecoveryServed.TheVariants as served
-use Rattle.replica_files.specs.declared.book_state.BookState.{BookState}
+use Rattle.block_recovery.specs.ReplicaFiles.BookState.{BookState}
 use Rattle.recovery_events.specs.declared.answering.Outcome.{Outcome}
 use Rattle.recovery_events.specs.declared.answering.Outcome.TheVariants as ended
 

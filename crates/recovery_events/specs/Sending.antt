@@ -1,12 +1,12 @@
 -- What the answer to a request of a recovery sends, as an end that is flushed.
 use Rattle.std.specs.Prelude.{ℕ, false, List, [], ◌∷◌, Option}
 use Rattle.op_headers.specs.declared.ops.RecoveryOp.{RecoveryOp}
-use Rattle.recovery_core.specs.Members.{Served, answer_of}
-use Rattle.world.specs.Parts.{Message, recovery_answer, Break}
-use Rattle.world.specs.Worlds.{World}
-use Rattle.world.specs.Nodes.{recovery_change}
-use Rattle.world_nets.specs.Steps.{SendsBy}
-use Rattle.world_nets.specs.Flushing.{lower_flush}
+use Rattle.block_recovery.specs.RecoveryCore.Members.{Served, answer_of}
+use Rattle.world_orders.specs.World.Parts.{Message, recovery_answer, Break}
+use Rattle.world_orders.specs.World.Worlds.{World}
+use Rattle.world_orders.specs.World.Nodes.{recovery_change}
+use Rattle.member_events.specs.WorldNets.Steps.{SendsBy}
+use Rattle.member_events.specs.WorldNets.Flushing.{lower_flush}
 
 -- the answer, as the messages that are sent up
 abbrev pub answer_messages : Served → List Message

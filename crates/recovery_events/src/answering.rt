@@ -10,11 +10,9 @@ ghost use Rattle.recovery_events.specs.Events.{RequestShows};
 
 use crate::ends::{broken, exchanged};
 use crate::faults::RecoveryFault;
-use block_recovery::{RecoveryServed, RecoveryTold, serve_recovery};
+use block_recovery::{Incoming, RecoveryServed, RecoveryTold, ReplicaBook, serve_recovery};
 use hd_base::{Conn, Files, LinkIn, LinkOut, Roads};
-use link_messages::Incoming;
 use op_headers::RecoveryOp;
-use replica_files::ReplicaBook;
 use std::alloc::Global;
 
 /// How an event of a recovery ends, and what is left.

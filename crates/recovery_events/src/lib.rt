@@ -10,8 +10,10 @@ mod laws;
 mod recovering;
 
 pub use answering::{Outcome, Recovering, recover_request};
+pub use block_recovery::{Incoming, ReplicaBook};
 pub use faults::RecoveryFault;
 pub use laws::{
     recoveries_come_in_order, recoveries_make, recoveries_name_one_block, recoveries_send,
 };
+pub use member_events::{FirstRequest, MemberFault, first_request};
 pub use recovering::recover_down;

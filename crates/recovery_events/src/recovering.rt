@@ -11,9 +11,8 @@ ghost use Rattle.recovery_events.specs.Events.{DownShows};
 use crate::answering::{Outcome, Recovering, answered};
 use crate::ends::{broken, brought, exchanged};
 use crate::faults::RecoveryFault;
-use block_recovery::{RecoveryCame, next_recovery};
+use block_recovery::{RecoveryCame, ReplicaBook, next_recovery};
 use hd_base::{Conn, Files, LinkIn, LinkOut, Roads};
-use replica_files::ReplicaBook;
 use std::alloc::Global;
 
 /// An end that answers a primary takes what stands next. A further request is booked and answered, over the book of the

@@ -1,19 +1,17 @@
 //! Whole runs over memory: worked examples with what they carry and store, and each call that can fail failing in turn.
 
 ghost use Rattle.std.specs.Prelude.{IfOk};
-ghost use Rattle.node_opening.specs.Listening.{AreUnused};
+ghost use Rattle.dn_run.specs.NodeOpening.Listening.{AreUnused};
 
-use dn_run::{Exit, run};
+use dn_run::{Exit, Expected, new_roads_are_unused, run};
 use fault_ports::Cutting;
 use hd_base::{BlockId, ConnId, FileName, Files, NodeId, ReplicaState, Roads, Shelf, Stamp};
 use mem_ports::{MemRoads, MemShelf, MemSink, MemSource};
-use play_report::Expected;
 use run_words::UsageRule;
 use script_lang::BadKind;
 use std::alloc::{AllocError, Global};
 use std::process::Abort;
 use std::test::Fail;
-use whole_play::new_roads_are_unused;
 
 /// A script of one write of nine bytes.
 const NINE: &[u8] =

@@ -9,20 +9,20 @@ use Rattle.op_headers.specs.declared.ops.ReadOp.{ReadOp}
 use Rattle.packet_codec.specs.declared.packets.Packet.{Packet}
 use Rattle.replica_core.specs.declared.events.Event.{Event}
 use Rattle.request_refusals.specs.declared.refusals.RequestRefusal.{RequestRefusal}
-use Rattle.read_core.specs.Servings.{ServingState, read_event, next_call}
+use Rattle.visible_read.specs.ReadCore.Servings.{ServingState, read_event, next_call}
 use Rattle.visible_read.specs.Answers.{answering}
-use Rattle.world.specs.declared.events.Delivery.TheVariants as delivery
-use Rattle.world.specs.declared.events.Event.TheVariants as event
-use Rattle.world.specs.Parts.{Message, response, Lower, idle, serves}
-use Rattle.world.specs.Worlds.{World, Change, Dial, dial_at, listed, apply}
-use Rattle.world.specs.Connections.{Next, down_taken, is_served, sent_on, is_conn}
-use Rattle.world.specs.Nodes.{lower_down, lower_ready, serve_change, failing_read, closing, breaking, read_change, piece_as}
-use Rattle.world.specs.Events.{outcome, changed, down_as, down_event}
-use Rattle.world_nets.specs.Changes.{sent_in, sent_by}
-use Rattle.world_nets.specs.Drawn.{ComesDown}
-use Rattle.world_nets.specs.Flushing.{lower_flush}
-use Rattle.world_nets.specs.Steps.{SendsBy}
-use Rattle.world_nets.proofs.ChangeLemmas.{flip-false}
+use Rattle.member_events.specs.World.Delivery.TheVariants as delivery
+use Rattle.member_events.specs.World.Event.TheVariants as event
+use Rattle.member_events.specs.World.Parts.{Message, response, Lower, idle, serves}
+use Rattle.member_events.specs.World.Worlds.{World, Change, Dial, dial_at, listed, apply}
+use Rattle.member_events.specs.World.Connections.{Next, down_taken, is_served, sent_on, is_conn}
+use Rattle.member_events.specs.World.Nodes.{lower_down, lower_ready, serve_change, failing_read, closing, breaking, read_change, piece_as}
+use Rattle.member_events.specs.World.Events.{outcome, changed, down_as, down_event}
+use Rattle.member_events.specs.WorldNets.Changes.{sent_in, sent_by}
+use Rattle.member_events.specs.WorldNets.Drawn.{ComesDown}
+use Rattle.member_events.specs.WorldNets.Flushing.{lower_flush}
+use Rattle.member_events.specs.WorldNets.Steps.{SendsBy}
+use Rattle.member_events.proofs.WorldNets.ChangeLemmas.{flip-false}
 use Rattle.serving_events.specs.Drawn.{read_next, block_of, answers_read, breaks_read, sends_packet, breaks_packet, RequestMakes, PacketMakes, is_refused, is_early, packet_sent, ReadSends}
 
 -- EVENTS

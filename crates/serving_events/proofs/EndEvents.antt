@@ -7,19 +7,19 @@ use Rattle.hd_base.specs.declared.links.LinkOut as link_out
 use Rattle.hd_base.specs.declared.numbers.ConnId.{ConnId}
 use Rattle.hd_base.specs.declared.roads.Roads as roads
 use Rattle.link_pieces.specs.Roads.{names, ExchangesEnd}
-use Rattle.read_core.specs.Servings.{ServingState}
+use Rattle.visible_read.specs.ReadCore.Servings.{ServingState}
 use Rattle.road_traffic.specs.Showing.{Net}
 use Rattle.road_traffic.proofs.TrafficLemmas.{same-itself}
-use Rattle.world.specs.declared.events.Event.{Event}
-use Rattle.world.specs.declared.events.Event.TheVariants as event
-use Rattle.world.specs.Worlds.{World, apply}
-use Rattle.world.specs.Connections.{Next, down_taken}
-use Rattle.world.specs.Nodes.{closing}
-use Rattle.world.specs.Events.{outcome, happens}
-use Rattle.world_nets.specs.Nets.{held_by, inbox_for, is_over}
-use Rattle.world_nets.specs.Steps.{taken_net}
-use Rattle.world_nets.proofs.FlushingLemmas.{closing-sends}
-use Rattle.world_nets.proofs.StepLemmas.{taken-net, taken-over}
+use Rattle.member_events.specs.World.Event.{Event}
+use Rattle.member_events.specs.World.Event.TheVariants as event
+use Rattle.member_events.specs.World.Worlds.{World, apply}
+use Rattle.member_events.specs.World.Connections.{Next, down_taken}
+use Rattle.member_events.specs.World.Nodes.{closing}
+use Rattle.member_events.specs.World.Events.{outcome, happens}
+use Rattle.member_events.specs.WorldNets.Nets.{held_by, inbox_for, is_over}
+use Rattle.member_events.specs.WorldNets.Steps.{taken_net}
+use Rattle.member_events.proofs.WorldNets.FlushingLemmas.{closing-sends}
+use Rattle.member_events.proofs.WorldNets.StepLemmas.{taken-net, taken-over}
 use Rattle.member_events.specs.Beginning.{Closes}
 use Rattle.member_events.proofs.EndLaws.{HeldAt, RoadsAt, end_held, end_passes}
 use Rattle.member_events.proofs.NetLaws.{other_passed}

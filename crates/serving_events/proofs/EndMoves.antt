@@ -7,19 +7,19 @@ use Rattle.hd_base.specs.declared.links.LinkOut as link_out
 use Rattle.hd_base.specs.declared.roads.Roads as roads
 use Rattle.hd_base.specs.declared.numbers.ConnId.{ConnId}
 use Rattle.link_pieces.specs.Roads.{ExchangesEnd}
-use Rattle.pipe_turns.specs.Acting.{ShutsBy}
+use Rattle.visible_read.specs.PipeTurns.Acting.{ShutsBy}
 use Rattle.road_traffic.specs.Showing.{Net, exchanged_net}
 use Rattle.road_traffic.specs.Laws.{left_net}
 use Rattle.road_traffic.proofs.CallLemmas.{shut-shows}
-use Rattle.world.specs.declared.events.Event.{Event}
-use Rattle.world.specs.Parts.{Message}
-use Rattle.world.specs.Worlds.{World, Change, apply}
-use Rattle.world.specs.Events.{outcome, happens}
-use Rattle.world_nets.specs.Rows.{text_of}
-use Rattle.world_nets.specs.Nets.{IsNetOf, IsEndOf, held_by, is_over}
-use Rattle.world_nets.specs.Flushing.{lower_flush}
-use Rattle.world_nets.specs.Steps.{SendsBy}
-use Rattle.world_nets.proofs.StepLemmas.{changed-over, followed}
+use Rattle.member_events.specs.World.Event.{Event}
+use Rattle.member_events.specs.World.Parts.{Message}
+use Rattle.member_events.specs.World.Worlds.{World, Change, apply}
+use Rattle.member_events.specs.World.Events.{outcome, happens}
+use Rattle.member_events.specs.WorldNets.Rows.{text_of}
+use Rattle.member_events.specs.WorldNets.Nets.{IsNetOf, IsEndOf, held_by, is_over}
+use Rattle.member_events.specs.WorldNets.Flushing.{lower_flush}
+use Rattle.member_events.specs.WorldNets.Steps.{SendsBy}
+use Rattle.member_events.proofs.WorldNets.StepLemmas.{changed-over, followed}
 use Rattle.member_events.specs.Beginning.{Closes}
 use Rattle.member_events.specs.Showing.{ShowsWorld, OthersStay}
 use Rattle.member_events.proofs.EndLaws.{HeldAt, RoadsAt, end_from, end_passes, end_brought}

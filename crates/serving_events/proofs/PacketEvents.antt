@@ -13,9 +13,9 @@ use Rattle.packet_codec.specs.Packets.{packet_text}
 use Rattle.packet_codec.specs.declared.packets.Packet.{Packet}
 use Rattle.replica_core.specs.declared.events.Event.{Event}
 use Rattle.replica_model.specs.Rows.{FullReplica, broken}
-use Rattle.replica_files.specs.declared.book_state.BookState.{BookState}
-use Rattle.replica_files.specs.Books.{replica_of}
-use Rattle.read_core.specs.Servings.{ServingState, Piece, packet_of, piece_of, piece_at, early_end, next_call, sent as sent_on}
+use Rattle.member_events.specs.ReplicaFiles.BookState.{BookState}
+use Rattle.member_events.specs.ReplicaFiles.Books.{replica_of}
+use Rattle.visible_read.specs.ReadCore.Servings.{ServingState, Piece, packet_of, piece_of, piece_at, early_end, next_call, sent as sent_on}
 use Rattle.road_traffic.specs.Showing.{Net}
 use Rattle.visible_read.specs.declared.answering.Course.{Course}
 use Rattle.visible_read.specs.declared.answering.Course.TheVariants as course
@@ -26,17 +26,17 @@ use Rattle.visible_read.specs.Packets.{passed_by, passed_on, SendsNext}
 use Rattle.visible_read.specs.Servings.{ServingRun, is_over as has_ended, left, Does}
 use Rattle.visible_read.proofs.PacketLemmas.{is-last}
 use Rattle.visible_read.proofs.ReadLemmas.{follows}
-use Rattle.world.specs.declared.events.Delivery.TheVariants as delivery
-use Rattle.world.specs.declared.events.Event.{Event as WorldEvent}
-use Rattle.world.specs.declared.events.Event.TheVariants as event
-use Rattle.world.specs.Parts.{Message, packet, ended_below}
-use Rattle.world.specs.Worlds.{World, Change, listed, apply}
-use Rattle.world.specs.Nodes.{replica_at, piece_change}
-use Rattle.world.specs.Events.{outcome, happens}
-use Rattle.world_nets.specs.Rows.{text_of}
-use Rattle.world_nets.specs.Nets.{held_by, is_over}
-use Rattle.world_nets.specs.Flushing.{lower_flush}
-use Rattle.world_nets.specs.Steps.{SendsBy}
+use Rattle.member_events.specs.World.Delivery.TheVariants as delivery
+use Rattle.member_events.specs.World.Event.{Event as WorldEvent}
+use Rattle.member_events.specs.World.Event.TheVariants as event
+use Rattle.member_events.specs.World.Parts.{Message, packet, ended_below}
+use Rattle.member_events.specs.World.Worlds.{World, Change, listed, apply}
+use Rattle.member_events.specs.World.Nodes.{replica_at, piece_change}
+use Rattle.member_events.specs.World.Events.{outcome, happens}
+use Rattle.member_events.specs.WorldNets.Rows.{text_of}
+use Rattle.member_events.specs.WorldNets.Nets.{held_by, is_over}
+use Rattle.member_events.specs.WorldNets.Flushing.{lower_flush}
+use Rattle.member_events.specs.WorldNets.Steps.{SendsBy}
 use Rattle.member_events.specs.Beginning.{Closes}
 use Rattle.member_events.proofs.CauseLaws.{out_failed}
 use Rattle.member_events.proofs.EndLaws.{HeldAt, RoadsAt, end_held, end_sends}

@@ -12,17 +12,17 @@ use Rattle.replica_core.specs.declared.refusals.Refusal.{Refusal}
 use Rattle.replica_core.specs.Transitions.{transition}
 use Rattle.replica_model.specs.declared.events.ReplicaEvent.TheVariants as replica_event
 use Rattle.replica_model.specs.Rows.{broken}
-use Rattle.replica_files.specs.declared.book_state.BookState.{BookState}
-use Rattle.replica_files.specs.declared.faults.BookFault.{BookFault}
-use Rattle.replica_files.specs.declared.faults.BookFault.TheVariants as fault
-use Rattle.replica_files.specs.Books.{replica_of, IsBookOf, Takes}
-use Rattle.replica_files.specs.Endings.{BookEnds}
-use Rattle.read_core.specs.declared.serving.ServePhase.{ServePhase}
-use Rattle.read_core.specs.declared.serving.ServePhase.TheVariants as phase
-use Rattle.read_core.specs.Servings.{ServingState, piece_len, piece_event, piece_of, packet_of, call_at, next_call, gone_on, sent_in, sent as sent_on}
-use Rattle.pipe_turns.specs.Turning.{SendsAlone}
-use Rattle.pipe_turns.specs.declared.turning.Done.{Done}
-use Rattle.pipe_turns.specs.declared.turning.Done.TheVariants as done
+use Rattle.member_events.specs.ReplicaFiles.BookState.{BookState}
+use Rattle.member_events.specs.ReplicaFiles.BookFault.{BookFault}
+use Rattle.member_events.specs.ReplicaFiles.BookFault.TheVariants as fault
+use Rattle.member_events.specs.ReplicaFiles.Books.{replica_of, IsBookOf, Takes}
+use Rattle.member_events.specs.ReplicaFiles.Endings.{BookEnds}
+use Rattle.visible_read.specs.ReadCore.ServePhase.{ServePhase}
+use Rattle.visible_read.specs.ReadCore.ServePhase.TheVariants as phase
+use Rattle.visible_read.specs.ReadCore.Servings.{ServingState, piece_len, piece_event, piece_of, packet_of, call_at, next_call, gone_on, sent_in, sent as sent_on}
+use Rattle.visible_read.specs.PipeTurns.Turning.{SendsAlone}
+use Rattle.visible_read.specs.PipeTurns.Done.{Done}
+use Rattle.visible_read.specs.PipeTurns.Done.TheVariants as done
 use Rattle.visible_read.specs.declared.answering.Served.TheVariants as served
 use Rattle.visible_read.specs.declared.answering.Took.{Took}
 use Rattle.visible_read.specs.Packets.{passed, passed_on, PassesAll, SendsBooked, SendsNext}

@@ -23,12 +23,12 @@ use Rattle.replica_core.specs.Transitions.{Outcome, there, transition, record_af
 use Rattle.replica_core.specs.Views.{written_in, written_at}
 use Rattle.replica_model.specs.declared.events.ReplicaEvent.TheVariants as replica_event
 use Rattle.replica_model.specs.Rows.{FullReplica, IsFull, row, broken}
-use Rattle.replica_files.specs.declared.book_state.BookState.{BookState}
-use Rattle.replica_files.specs.declared.faults.BookFault.{BookFault}
-use Rattle.replica_files.specs.declared.faults.BookFault.TheVariants as fault
-use Rattle.replica_files.specs.Books.{replica_of, Takes}
-use Rattle.replica_files.specs.Endings.{BookEnds}
-use Rattle.replica_files.proofs.BookLemmas.{noted}
+use Rattle.member_events.specs.ReplicaFiles.BookState.{BookState}
+use Rattle.member_events.specs.ReplicaFiles.BookFault.{BookFault}
+use Rattle.member_events.specs.ReplicaFiles.BookFault.TheVariants as fault
+use Rattle.member_events.specs.ReplicaFiles.Books.{replica_of, Takes}
+use Rattle.member_events.specs.ReplicaFiles.Endings.{BookEnds}
+use Rattle.member_events.proofs.ReplicaFiles.BookLemmas.{noted}
 
 -- A READ LEAVES THE REPLICA
 

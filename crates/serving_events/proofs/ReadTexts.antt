@@ -6,11 +6,11 @@ use Rattle.proto_fields.specs.Frames.{limit}
 use Rattle.ack_codec.specs.declared.responses.Response.{Response}
 use Rattle.ack_codec.specs.Responses.{SaysResponse}
 use Rattle.ack_codec.specs.ResponseTexts.{response_message, response_text}
-use Rattle.pipe_turns.specs.Acting.{sized_response}
-use Rattle.world.specs.Parts.{Message, response}
-use Rattle.world.specs.Worlds.{World, listed}
-use Rattle.world_nets.specs.Rows.{text_of}
-use Rattle.world_texts.specs.Texts.{SpellsText}
+use Rattle.visible_read.specs.PipeTurns.Acting.{sized_response}
+use Rattle.member_events.specs.World.Parts.{Message, response}
+use Rattle.member_events.specs.World.Worlds.{World, listed}
+use Rattle.member_events.specs.WorldNets.Rows.{text_of}
+use Rattle.member_events.specs.WorldTexts.Texts.{SpellsText}
 use Rattle.member_events.specs.Texts.{SpellUp}
 use Rattle.member_events.proofs.StepLaws.{spelled_within, fits_within, last_of}
 

@@ -11,12 +11,12 @@ use Rattle.hd_base.specs.declared.roads.Roads as roads
 use Rattle.link_pieces.specs.Roads.{KeepsInward, ExchangesEnd}
 use Rattle.op_headers.specs.declared.ops.ReadOp.{ReadOp}
 use Rattle.replica_model.specs.Rows.{FullReplica, broken}
-use Rattle.replica_files.specs.declared.book_state.BookState.{BookState}
-use Rattle.replica_files.specs.Books.{replica_of}
+use Rattle.member_events.specs.ReplicaFiles.BookState.{BookState}
+use Rattle.member_events.specs.ReplicaFiles.Books.{replica_of}
 use Rattle.request_refusals.specs.declared.refusals.RequestRefusal.{RequestRefusal}
 use Rattle.request_refusals.specs.declared.refusals.RequestRefusal.TheVariants as refusal
-use Rattle.read_core.specs.Servings.{ServingState, read_at, accepting, refusing}
-use Rattle.pipe_turns.specs.Acting.{sized_response}
+use Rattle.visible_read.specs.ReadCore.Servings.{ServingState, read_at, accepting, refusing}
+use Rattle.visible_read.specs.PipeTurns.Acting.{sized_response}
 use Rattle.road_traffic.specs.Showing.{Net}
 use Rattle.visible_read.specs.declared.answering.Course.{Course}
 use Rattle.visible_read.specs.declared.answering.Course.TheVariants as course
@@ -26,18 +26,18 @@ use Rattle.visible_read.specs.declared.answering.Served.TheVariants as served
 use Rattle.visible_read.specs.declared.answering.Took.{Took}
 use Rattle.visible_read.specs.Answers.{Answers, answering, answered as answered_as, served_as}
 use Rattle.visible_read.specs.Servings.{ServingRun, unanswered, left}
-use Rattle.world.specs.declared.events.Delivery.TheVariants as delivery
-use Rattle.world.specs.declared.events.Event.{Event as WorldEvent}
-use Rattle.world.specs.declared.events.Event.TheVariants as event
-use Rattle.world.specs.Parts.{Message, response, ended_below}
-use Rattle.world.specs.Worlds.{World, Change, listed, apply}
-use Rattle.world.specs.Connections.{sent_on}
-use Rattle.world.specs.Nodes.{replica_at, read_change}
-use Rattle.world.specs.Events.{outcome, happens}
-use Rattle.world_nets.specs.Rows.{text_of}
-use Rattle.world_nets.specs.Nets.{held_by, is_over}
-use Rattle.world_nets.specs.Flushing.{lower_flush}
-use Rattle.world_nets.specs.Steps.{SendsBy}
+use Rattle.member_events.specs.World.Delivery.TheVariants as delivery
+use Rattle.member_events.specs.World.Event.{Event as WorldEvent}
+use Rattle.member_events.specs.World.Event.TheVariants as event
+use Rattle.member_events.specs.World.Parts.{Message, response, ended_below}
+use Rattle.member_events.specs.World.Worlds.{World, Change, listed, apply}
+use Rattle.member_events.specs.World.Connections.{sent_on}
+use Rattle.member_events.specs.World.Nodes.{replica_at, read_change}
+use Rattle.member_events.specs.World.Events.{outcome, happens}
+use Rattle.member_events.specs.WorldNets.Rows.{text_of}
+use Rattle.member_events.specs.WorldNets.Nets.{held_by, is_over}
+use Rattle.member_events.specs.WorldNets.Flushing.{lower_flush}
+use Rattle.member_events.specs.WorldNets.Steps.{SendsBy}
 use Rattle.member_events.specs.Beginning.{Closes}
 use Rattle.member_events.specs.Texts.{SpellUp}
 use Rattle.member_events.proofs.CauseLaws.{out_failed}

@@ -9,19 +9,19 @@ use Rattle.replica_core.specs.declared.events.Event.{Event}
 use Rattle.replica_core.specs.declared.events.Event.TheVariants as event
 use Rattle.replica_model.specs.declared.events.ReplicaEvent.TheVariants as replica_event
 use Rattle.replica_model.specs.Rows.{broken}
-use Rattle.replica_files.specs.declared.book_state.BookState.{BookState}
-use Rattle.replica_files.specs.declared.faults.BookFault.{BookFault}
-use Rattle.replica_files.specs.declared.faults.BookFault.TheVariants as fault
-use Rattle.replica_files.specs.Books.{replica_of, IsBookOf}
-use Rattle.replica_files.specs.Endings.{BookEnds}
+use Rattle.member_events.specs.ReplicaFiles.BookState.{BookState}
+use Rattle.member_events.specs.ReplicaFiles.BookFault.{BookFault}
+use Rattle.member_events.specs.ReplicaFiles.BookFault.TheVariants as fault
+use Rattle.member_events.specs.ReplicaFiles.Books.{replica_of, IsBookOf}
+use Rattle.member_events.specs.ReplicaFiles.Endings.{BookEnds}
 use Rattle.request_refusals.specs.declared.refusals.RequestRefusal.{RequestRefusal}
 use Rattle.request_refusals.specs.declared.refusals.RequestRefusal.TheVariants as refusal
 use Rattle.request_refusals.specs.Pools.{is_in_pool}
-use Rattle.read_core.specs.Servings.{ServingState, read_at, read_event}
-use Rattle.pipe_turns.specs.Acting.{sized_response}
-use Rattle.pipe_turns.specs.Turning.{SendsAlone}
-use Rattle.pipe_turns.specs.declared.turning.Done.{Done}
-use Rattle.pipe_turns.specs.declared.turning.Done.TheVariants as done
+use Rattle.visible_read.specs.ReadCore.Servings.{ServingState, read_at, read_event}
+use Rattle.visible_read.specs.PipeTurns.Acting.{sized_response}
+use Rattle.visible_read.specs.PipeTurns.Turning.{SendsAlone}
+use Rattle.visible_read.specs.PipeTurns.Done.{Done}
+use Rattle.visible_read.specs.PipeTurns.Done.TheVariants as done
 use Rattle.visible_read.specs.declared.answering.Reply.TheVariants as reply
 use Rattle.visible_read.specs.declared.answering.Served.TheVariants as served
 use Rattle.visible_read.specs.declared.answering.Took.{Took}

@@ -3,11 +3,11 @@ use Rattle.std.proofs.Common.{◌≡◌, ℕ, ◌-◌, ◌&&◌, Bool, true, fal
 use Rattle.std.specs.Prelude.{◌==◌, nat_le, unwrap_or}
 use Rattle.std.proofs.lemmas.Bool.{eqb-true}
 use Rattle.replica_model.specs.Rows.{FullReplica}
-use Rattle.world.specs.declared.events.Event.{Event}
-use Rattle.world.specs.Parts.{Dialled}
-use Rattle.world.specs.Worlds.{World, Change, Dial, put, put_at, dial_at, apply}
-use Rattle.world.specs.Nodes.{node_of, replica_at}
-use Rattle.world.specs.Events.{outcome, happens}
+use Rattle.member_events.specs.World.Event.{Event}
+use Rattle.member_events.specs.World.Parts.{Dialled}
+use Rattle.member_events.specs.World.Worlds.{World, Change, Dial, put, put_at, dial_at, apply}
+use Rattle.member_events.specs.World.Nodes.{node_of, replica_at}
+use Rattle.member_events.specs.World.Events.{outcome, happens}
 use Rattle.member_events.proofs.WorldLaws.{at_put, at_put_at, happened}
 
 none_dialled : (q : Bool) (k : ℕ) (d : Dialled) → unwrap_or (option_map (λ (x : Dial). x.dialled) (if q then slice_get [] k else None)) d ≡ d

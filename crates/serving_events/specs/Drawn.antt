@@ -10,18 +10,18 @@ use Rattle.replica_model.specs.declared.events.ReplicaEvent.TheVariants as repli
 use Rattle.replica_model.specs.Rows.{FullReplica, broken}
 use Rattle.request_refusals.specs.declared.refusals.RequestRefusal.{RequestRefusal}
 use Rattle.request_refusals.specs.declared.refusals.RequestRefusal.TheVariants as refusal
-use Rattle.read_core.specs.Servings.{ServingState, Piece, read_at, read_event, refusing, next_call, piece_at}
+use Rattle.visible_read.specs.ReadCore.Servings.{ServingState, Piece, read_at, read_event, refusing, next_call, piece_at}
 use Rattle.visible_read.specs.Answers.{answering}
-use Rattle.world.specs.declared.events.Delivery.TheVariants as delivery
-use Rattle.world.specs.declared.events.Event.TheVariants as event
-use Rattle.world.specs.Parts.{Message, request, packet, response, idle, serves}
-use Rattle.world.specs.Worlds.{World, Change, apply}
-use Rattle.world.specs.Connections.{Next, message, down_taken, is_served}
-use Rattle.world.specs.Nodes.{closing, breaking, read_change, piece_change, replica_at}
-use Rattle.world.specs.Events.{outcome}
-use Rattle.world_nets.specs.Drawn.{ComesDown}
-use Rattle.world_nets.specs.Flushing.{lower_flush}
-use Rattle.world_nets.specs.Steps.{SendsBy}
+use Rattle.member_events.specs.World.Delivery.TheVariants as delivery
+use Rattle.member_events.specs.World.Event.TheVariants as event
+use Rattle.member_events.specs.World.Parts.{Message, request, packet, response, idle, serves}
+use Rattle.member_events.specs.World.Worlds.{World, Change, apply}
+use Rattle.member_events.specs.World.Connections.{Next, message, down_taken, is_served}
+use Rattle.member_events.specs.World.Nodes.{closing, breaking, read_change, piece_change, replica_at}
+use Rattle.member_events.specs.World.Events.{outcome}
+use Rattle.member_events.specs.WorldNets.Drawn.{ComesDown}
+use Rattle.member_events.specs.WorldNets.Flushing.{lower_flush}
+use Rattle.member_events.specs.WorldNets.Steps.{SendsBy}
 
 -- REQUESTS
 

@@ -4,15 +4,15 @@ use Rattle.hd_base.specs.declared.links.LinkIn as link_in
 use Rattle.hd_base.specs.declared.links.LinkOut as link_out
 use Rattle.hd_base.specs.declared.numbers.ConnId.{ConnId}
 use Rattle.hd_base.specs.declared.roads.Roads as roads
-use Rattle.read_core.specs.Servings.{ServingState}
+use Rattle.visible_read.specs.ReadCore.Servings.{ServingState}
 use Rattle.road_traffic.specs.Showing.{Net}
-use Rattle.world.specs.declared.events.Event.TheVariants as event
-use Rattle.world.specs.Parts.{serves, ended_below}
-use Rattle.world.specs.Worlds.{World}
-use Rattle.world.specs.Connections.{Next}
-use Rattle.world.specs.Nodes.{replica_at}
-use Rattle.world.specs.Events.{happens}
-use Rattle.world_nets.specs.Drawn.{ComesDown}
+use Rattle.member_events.specs.World.Event.TheVariants as event
+use Rattle.member_events.specs.World.Parts.{serves, ended_below}
+use Rattle.member_events.specs.World.Worlds.{World}
+use Rattle.member_events.specs.World.Connections.{Next}
+use Rattle.member_events.specs.World.Nodes.{replica_at}
+use Rattle.member_events.specs.World.Events.{happens}
+use Rattle.member_events.specs.WorldNets.Drawn.{ComesDown}
 use Rattle.member_events.specs.Showing.{ShowsWorld, OthersStay}
 use Rattle.serving_events.specs.declared.faults.ServeFault.{ServeFault}
 use Rattle.serving_events.specs.declared.steps.ServedRead.{ServedRead}

@@ -5,3 +5,6 @@ pub mod Showing
 pub mod Requests
 pub mod Packets
 pub mod Ends
+pub mod ReadCore
+pub mod ReplicaModel
+pub mod VisibleRead

@@ -7,16 +7,16 @@ use Rattle.hd_base.specs.declared.links.LinkOut as link_out
 use Rattle.hd_base.specs.declared.numbers.ConnId.{ConnId}
 use Rattle.hd_base.specs.declared.roads.Roads as roads
 use Rattle.replica_core.specs.declared.events.Event.{Event}
-use Rattle.replica_files.specs.declared.book_state.BookState.{BookState}
-use Rattle.read_core.specs.Servings.{ServingState, next_call}
+use Rattle.member_events.specs.ReplicaFiles.BookState.{BookState}
+use Rattle.visible_read.specs.ReadCore.Servings.{ServingState, next_call}
 use Rattle.road_traffic.specs.Showing.{Net}
 use Rattle.visible_read.specs.declared.answering.Served.{Served}
 use Rattle.visible_read.specs.declared.answering.Served.TheVariants as served
-use Rattle.world.specs.declared.events.Delivery.TheVariants as delivery
-use Rattle.world.specs.declared.events.Event.TheVariants as event
-use Rattle.world.specs.Worlds.{World}
-use Rattle.world.specs.Connections.{is_served}
-use Rattle.world.specs.Events.{happens}
+use Rattle.member_events.specs.World.Delivery.TheVariants as delivery
+use Rattle.member_events.specs.World.Event.TheVariants as event
+use Rattle.member_events.specs.World.Worlds.{World}
+use Rattle.member_events.specs.World.Connections.{is_served}
+use Rattle.member_events.specs.World.Events.{happens}
 use Rattle.serving_events.specs.declared.faults.ServeFault.{ServeFault}
 use Rattle.serving_events.specs.declared.faults.ServeFault.TheVariants as fault
 use Rattle.serving_events.specs.declared.steps.Outcome.{Outcome}

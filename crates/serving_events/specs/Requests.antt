@@ -8,18 +8,18 @@ use Rattle.hd_base.specs.declared.links.LinkOut as link_out
 use Rattle.hd_base.specs.declared.numbers.ConnId.{ConnId}
 use Rattle.hd_base.specs.declared.roads.Roads as roads
 use Rattle.op_headers.specs.declared.ops.ReadOp.{ReadOp}
-use Rattle.replica_files.specs.declared.book_state.BookState.{BookState}
-use Rattle.replica_files.specs.Books.{replica_of}
+use Rattle.member_events.specs.ReplicaFiles.BookState.{BookState}
+use Rattle.member_events.specs.ReplicaFiles.Books.{replica_of}
 use Rattle.road_traffic.specs.Showing.{Net}
-use Rattle.world.specs.declared.events.Delivery.TheVariants as delivery
-use Rattle.world.specs.declared.events.Event.TheVariants as event
-use Rattle.world.specs.Parts.{idle}
-use Rattle.world.specs.Worlds.{World}
-use Rattle.world.specs.Connections.{down_taken}
-use Rattle.world.specs.Nodes.{replica_at}
-use Rattle.world.specs.Events.{happens}
-use Rattle.world_nets.specs.Drawn.{ComesDown}
-use Rattle.world_nets.specs.Nets.{IsEndOf}
+use Rattle.member_events.specs.World.Delivery.TheVariants as delivery
+use Rattle.member_events.specs.World.Event.TheVariants as event
+use Rattle.member_events.specs.World.Parts.{idle}
+use Rattle.member_events.specs.World.Worlds.{World}
+use Rattle.member_events.specs.World.Connections.{down_taken}
+use Rattle.member_events.specs.World.Nodes.{replica_at}
+use Rattle.member_events.specs.World.Events.{happens}
+use Rattle.member_events.specs.WorldNets.Drawn.{ComesDown}
+use Rattle.member_events.specs.WorldNets.Nets.{IsEndOf}
 use Rattle.member_events.specs.Showing.{ShowsWorld}
 use Rattle.member_events.specs.Texts.{SpellUp}
 use Rattle.serving_events.specs.declared.faults.ServeFault.{ServeFault}

@@ -3,16 +3,16 @@ use Rattle.std.specs.Prelude.{◌≡◌, ℕ, true, None}
 use Rattle.hd_base.specs.declared.links.LinkIn as link_in
 use Rattle.hd_base.specs.declared.links.LinkOut as link_out
 use Rattle.hd_base.specs.declared.roads.Roads as roads
-use Rattle.replica_files.specs.declared.book_state.BookState.{BookState}
-use Rattle.replica_files.specs.Books.{replica_of}
-use Rattle.read_core.specs.Servings.{ServingState, next_call}
+use Rattle.member_events.specs.ReplicaFiles.BookState.{BookState}
+use Rattle.member_events.specs.ReplicaFiles.Books.{replica_of}
+use Rattle.visible_read.specs.ReadCore.Servings.{ServingState, next_call}
 use Rattle.road_traffic.specs.Showing.{Net}
 use Rattle.visible_read.specs.declared.answering.Course.{Course}
 use Rattle.visible_read.specs.declared.answering.Course.TheVariants as course
-use Rattle.world.specs.Parts.{serves, ended_below}
-use Rattle.world.specs.Worlds.{World}
-use Rattle.world.specs.Nodes.{replica_at}
-use Rattle.world_nets.specs.Nets.{IsEndOf}
+use Rattle.member_events.specs.World.Parts.{serves, ended_below}
+use Rattle.member_events.specs.World.Worlds.{World}
+use Rattle.member_events.specs.World.Nodes.{replica_at}
+use Rattle.member_events.specs.WorldNets.Nets.{IsEndOf}
 use Rattle.member_events.specs.Showing.{ShowsWorld, OthersStay}
 use Rattle.serving_events.specs.declared.steps.ServedRead.{ServedRead}
 use Rattle.serving_events.specs.Drawn.{block_of}

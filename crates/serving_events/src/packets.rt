@@ -9,7 +9,7 @@ ghost use Rattle.serving_events.specs.Steps.{LeftIsKnown};
 use crate::faults::ServeFault;
 use crate::steps::{Outcome, ServedRead, Stepped, closed, placed, step};
 use hd_base::{Conn, Files, LinkIn, LinkOut, Roads};
-use replica_files::ReplicaBook;
+use member_events::ReplicaBook;
 use std::alloc::Global;
 use visible_read::Served;
 

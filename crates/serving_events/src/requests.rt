@@ -8,8 +8,8 @@ ghost use Rattle.serving_events.specs.Steps.{LeftIsKnown};
 use crate::faults::ServeFault;
 use crate::steps::{Outcome, ServedRead, placed, step};
 use hd_base::{Conn, Files, LinkIn, LinkOut, Roads};
+use member_events::ReplicaBook;
 use op_headers::ReadOp;
-use replica_files::ReplicaBook;
 use std::alloc::Global;
 use visible_read::Serving;
 

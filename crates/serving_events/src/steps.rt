@@ -19,7 +19,7 @@ ghost use Rattle.serving_events.specs.Steps.{
 use crate::faults::{ServeFault, road_fault};
 use hd_base::{Conn, ConnId, Files, LinkIn, LinkOut, Roads};
 use link_pieces::exchange_end;
-use replica_files::ReplicaBook;
+use member_events::ReplicaBook;
 use std::alloc::Global;
 use visible_read::{Served, Serving};
 

@@ -7,10 +7,10 @@ use Rattle.hd_base.specs.declared.numbers.Receipt.{Receipt}
 use Rattle.ack_codec.specs.declared.responses.Response.{Response}
 use Rattle.op_headers.specs.declared.ops.ReadOp.{ReadOp}
 use Rattle.packet_codec.specs.declared.packets.Packet.{Packet}
-use Rattle.replica_files.specs.declared.book_state.BookState.{BookState}
-use Rattle.replica_files.specs.declared.faults.BookFault.{BookFault}
-use Rattle.replica_files.specs.declared.faults.BookFault.TheVariants as fault
-use Rattle.replica_files.specs.Books.{replica_of}
+use Rattle.pipe_turns.specs.ReplicaFiles.BookState.{BookState}
+use Rattle.pipe_turns.specs.ReplicaFiles.BookFault.{BookFault}
+use Rattle.pipe_turns.specs.ReplicaFiles.BookFault.TheVariants as fault
+use Rattle.pipe_turns.specs.ReplicaFiles.Books.{replica_of}
 use Rattle.request_refusals.specs.declared.refusals.RequestRefusal.{RequestRefusal}
 use Rattle.read_core.specs.declared.serving.ServePhase.{ServePhase}
 use Rattle.read_core.specs.Servings.{ServingState, piece_len, packet_of, gone_on, sent_in, sent, most_bytes}

@@ -20,13 +20,13 @@ use Rattle.replica_core.specs.Refusals.{check}
 use Rattle.replica_core.specs.Info.{visible_of, readable}
 use Rattle.replica_core.specs.Transitions.{Outcome, reply, answer_of, there, transition, answer_to}
 use Rattle.replica_core.specs.Views.{rule_in, visible_in}
-use Rattle.replica_model.specs.Rows.{FullReplica}
-use Rattle.replica_model.specs.declared.events.ReplicaEvent.TheVariants as replica_event
-use Rattle.replica_files.specs.declared.book_state.BookState.{BookState}
-use Rattle.replica_files.specs.declared.faults.BookFault.{BookFault}
-use Rattle.replica_files.specs.declared.faults.BookFault.TheVariants as fault
-use Rattle.replica_files.specs.Books.{replica_of, IsBookOf}
-use Rattle.replica_files.specs.Endings.{BookEnds}
+use Rattle.read_core.specs.ReplicaModel.Rows.{FullReplica}
+use Rattle.read_core.specs.ReplicaModel.ReplicaEvent.TheVariants as replica_event
+use Rattle.pipe_turns.specs.ReplicaFiles.BookState.{BookState}
+use Rattle.pipe_turns.specs.ReplicaFiles.BookFault.{BookFault}
+use Rattle.pipe_turns.specs.ReplicaFiles.BookFault.TheVariants as fault
+use Rattle.pipe_turns.specs.ReplicaFiles.Books.{replica_of, IsBookOf}
+use Rattle.pipe_turns.specs.ReplicaFiles.Endings.{BookEnds}
 use Rattle.request_refusals.specs.declared.refusals.RequestRefusal.{RequestRefusal}
 use Rattle.request_refusals.specs.declared.refusals.RequestRefusal.TheVariants as refusal
 use Rattle.request_refusals.specs.Pools.{is_in_pool}

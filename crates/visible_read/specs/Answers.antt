@@ -10,13 +10,13 @@ use Rattle.ack_codec.specs.declared.responses.Response.{Response}
 use Rattle.op_headers.specs.declared.ops.ReadOp.{ReadOp}
 use Rattle.replica_core.specs.declared.events.Event.{Event}
 use Rattle.replica_core.specs.declared.events.Event.TheVariants as event
-use Rattle.replica_model.specs.Rows.{FullReplica}
-use Rattle.replica_model.specs.declared.events.ReplicaEvent.TheVariants as replica_event
-use Rattle.replica_files.specs.declared.book_state.BookState.{BookState}
-use Rattle.replica_files.specs.declared.faults.BookFault.{BookFault}
-use Rattle.replica_files.specs.declared.faults.BookFault.TheVariants as fault
-use Rattle.replica_files.specs.Books.{replica_of}
-use Rattle.replica_files.specs.Endings.{BookEnds}
+use Rattle.read_core.specs.ReplicaModel.Rows.{FullReplica}
+use Rattle.read_core.specs.ReplicaModel.ReplicaEvent.TheVariants as replica_event
+use Rattle.pipe_turns.specs.ReplicaFiles.BookState.{BookState}
+use Rattle.pipe_turns.specs.ReplicaFiles.BookFault.{BookFault}
+use Rattle.pipe_turns.specs.ReplicaFiles.BookFault.TheVariants as fault
+use Rattle.pipe_turns.specs.ReplicaFiles.Books.{replica_of}
+use Rattle.pipe_turns.specs.ReplicaFiles.Endings.{BookEnds}
 use Rattle.request_refusals.specs.declared.refusals.RequestRefusal.{RequestRefusal}
 use Rattle.request_refusals.specs.declared.refusals.RequestRefusal.TheVariants as refusal
 use Rattle.read_core.specs.Servings.{ServingState, begun, read_event, read_at, accepting, refusing}

@@ -3,7 +3,7 @@ use Rattle.std.specs.Prelude.{◌≡◌, ◌⊎◌, List, [], ◌∷◌, Some, N
 use Rattle.hd_base.specs.declared.files.Files as files
 use Rattle.hd_base.specs.declared.links.LinkOut as link_out
 use Rattle.op_headers.specs.declared.ops.ReadOp.{ReadOp}
-use Rattle.replica_files.specs.declared.book_state.BookState.{BookState}
+use Rattle.pipe_turns.specs.ReplicaFiles.BookState.{BookState}
 use Rattle.visible_read.specs.declared.answering.Served.{Served}
 use Rattle.visible_read.specs.declared.answering.Served.TheVariants as served
 use Rattle.visible_read.specs.Servings.{ServingRun, unanswered, Steps}

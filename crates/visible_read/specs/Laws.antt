@@ -2,9 +2,9 @@
 use Rattle.std.specs.Prelude.{◌≡◌, Some, Err}
 use Rattle.replica_core.specs.declared.refusals.Refusal.{Refusal}
 use Rattle.replica_core.specs.Transitions.{transition}
-use Rattle.replica_model.specs.Rows.{FullReplica}
-use Rattle.replica_model.specs.declared.events.ReplicaEvent.TheVariants as replica_event
-use Rattle.replica_files.specs.Books.{Takes}
+use Rattle.read_core.specs.ReplicaModel.Rows.{FullReplica}
+use Rattle.read_core.specs.ReplicaModel.ReplicaEvent.TheVariants as replica_event
+use Rattle.pipe_turns.specs.ReplicaFiles.Books.{Takes}
 use Rattle.read_core.specs.Servings.{ServingState, piece_event, piece_of, packet_of, sent, piece_at, early_end}
 
 -- What is sent of a read at a replica, by whether that takes the call.

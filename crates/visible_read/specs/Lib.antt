@@ -7,3 +7,7 @@ pub mod Hearing
 pub mod Talking
 pub mod ReadingBack
 pub mod Laws
+pub mod FrameFeed
+pub mod LinkMessages
+pub mod PipeTurns
+pub mod ReadCore

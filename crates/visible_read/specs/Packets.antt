@@ -6,14 +6,14 @@ use Rattle.hd_base.specs.declared.links.LinkOut as link_out
 use Rattle.hd_base.specs.declared.numbers.Receipt.{Receipt}
 use Rattle.packet_codec.specs.declared.packets.Packet.{Packet}
 use Rattle.packet_codec.specs.Packets.{packet_text}
-use Rattle.replica_model.specs.Rows.{FullReplica}
-use Rattle.replica_model.specs.declared.events.ReplicaEvent.TheVariants as replica_event
-use Rattle.replica_files.specs.declared.book_state.BookState.{BookState}
-use Rattle.replica_files.specs.declared.faults.BookFault.{BookFault}
-use Rattle.replica_files.specs.declared.faults.BookFault.TheVariants as fault
-use Rattle.replica_files.specs.Books.{replica_of}
-use Rattle.replica_files.specs.Endings.{BookEnds}
-use Rattle.replica_files.specs.Reads.{ReadsBytes}
+use Rattle.read_core.specs.ReplicaModel.Rows.{FullReplica}
+use Rattle.read_core.specs.ReplicaModel.ReplicaEvent.TheVariants as replica_event
+use Rattle.pipe_turns.specs.ReplicaFiles.BookState.{BookState}
+use Rattle.pipe_turns.specs.ReplicaFiles.BookFault.{BookFault}
+use Rattle.pipe_turns.specs.ReplicaFiles.BookFault.TheVariants as fault
+use Rattle.pipe_turns.specs.ReplicaFiles.Books.{replica_of}
+use Rattle.pipe_turns.specs.ReplicaFiles.Endings.{BookEnds}
+use Rattle.pipe_turns.specs.ReplicaFiles.Reads.{ReadsBytes}
 use Rattle.read_core.specs.Servings.{ServingState, piece_len, piece_event, packet_of, sent}
 use Rattle.pipe_turns.specs.Turning.{SendsAlone}
 use Rattle.pipe_turns.specs.declared.turning.Done.{Done}

@@ -4,7 +4,7 @@ use Rattle.hd_base.specs.declared.files.Files as files
 use Rattle.hd_base.specs.declared.links.LinkOut as link_out
 use Rattle.hd_base.specs.declared.numbers.Receipt.{Receipt}
 use Rattle.op_headers.specs.declared.ops.ReadOp.{ReadOp}
-use Rattle.replica_files.specs.declared.book_state.BookState.{BookState}
+use Rattle.pipe_turns.specs.ReplicaFiles.BookState.{BookState}
 use Rattle.visible_read.specs.declared.answering.Course.{Course}
 use Rattle.visible_read.specs.declared.answering.Course.TheVariants as course
 use Rattle.visible_read.specs.declared.answering.Reply.{Reply}

@@ -26,10 +26,9 @@ use ack_codec::{Response, encode_response};
 use hd_base::{Files, LinkOut, Receipt};
 use op_headers::ReadOp;
 use packet_codec::Packet;
-use pipe_turns::{Done, send_alone};
+use pipe_turns::{BookFault, Done, ReplicaBook, send_alone};
 use read_core::{Serving as CoreServing, read_event, refusal_response};
 use replica_core::{Refusal, Replica};
-use replica_files::{BookFault, ReplicaBook};
 use request_refusals::RequestRefusal;
 use std::alloc::{AllocError, Global};
 

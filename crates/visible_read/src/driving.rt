@@ -6,7 +6,7 @@ use crate::answering::Served;
 use crate::serving::Serving;
 use hd_base::{Files, LinkOut};
 use op_headers::ReadOp;
-use replica_files::ReplicaBook;
+use pipe_turns::ReplicaBook;
 use std::alloc::Global;
 
 /// Serves a read: answers it, and then sends its packets, the empty last one too, each as one piece.

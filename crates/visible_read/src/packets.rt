@@ -11,10 +11,9 @@ use crate::answering::{Course, Reply, Served, Took, ended, wanting};
 use bytes::Bytes;
 use hd_base::{Files, LinkOut, Receipt};
 use packet_codec::{Packet, encode_packet};
-use pipe_turns::{Done, send_alone};
+use pipe_turns::{BookFault, Done, ReplicaBook, send_alone};
 use read_core::Serving as CoreServing;
 use replica_core::Event;
-use replica_files::{BookFault, ReplicaBook};
 use std::alloc::{AllocError, Global};
 
 /// Books the next packet of a read, and sends it: its bytes are read once, into its body.

@@ -8,7 +8,7 @@ use crate::answering::{Course, Reply, Served, Took, answer};
 use crate::packets::send_next;
 use hd_base::{Files, LinkOut, Receipt};
 use op_headers::ReadOp;
-use replica_files::ReplicaBook;
+use pipe_turns::ReplicaBook;
 use std::alloc::Global;
 use std::marker::Model;
 

@@ -4,11 +4,11 @@ use Rattle.hd_base.specs.Faults.{FaultsIncreased}
 use Rattle.hd_base.specs.declared.files.Files as files
 use Rattle.hd_base.specs.declared.numbers.NodeId.{NodeId}
 use Rattle.hd_base.specs.declared.shelves.Shelf as shelves
-use Rattle.play_nodes.specs.declared.nodes.Nodes.{Nodes}
-use Rattle.play_nodes.proofs.PlaceLaws.{element_within}
-use Rattle.node_opening.specs.Emptiness.{ShelfRose}
-use Rattle.node_opening.specs.Laws.{NeverFell, HaveClosed}
-use Rattle.play_lines.specs.Drawing.{HasFailed}
+use Rattle.play_report.specs.PlayNodes.Nodes.{Nodes}
+use Rattle.play_report.proofs.PlayNodes.PlaceLaws.{element_within}
+use Rattle.play_report.specs.NodeOpening.Emptiness.{ShelfRose}
+use Rattle.play_report.specs.NodeOpening.Laws.{NeverFell, HaveClosed}
+use Rattle.completing_lines.specs.PlayLines.Drawing.{HasFailed}
 
 -- LISTS
 

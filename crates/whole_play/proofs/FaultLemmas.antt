@@ -4,15 +4,15 @@ use Rattle.hd_base.specs.Faults.{FaultsIncreased}
 use Rattle.hd_base.specs.declared.files.Files as files
 use Rattle.hd_base.specs.declared.roads.Roads as roads
 use Rattle.hd_base.specs.declared.shelves.Shelf as shelves
-use Rattle.node_opening.specs.declared.faults.OpenFault.{OpenFault}
-use Rattle.node_opening.specs.declared.faults.OpenFault.TheVariants as opening
-use Rattle.node_opening.specs.Laws.{NeverFell, HaveClosed}
-use Rattle.node_opening.specs.Opening.{HasOpenCause}
-use Rattle.play.specs.declared.faults.PlayFault.{PlayFault}
-use Rattle.play.specs.declared.faults.PlayFault.TheVariants as play
+use Rattle.play_report.specs.NodeOpening.OpenFault.{OpenFault}
+use Rattle.play_report.specs.NodeOpening.OpenFault.TheVariants as opening
+use Rattle.play_report.specs.NodeOpening.Laws.{NeverFell, HaveClosed}
+use Rattle.play_report.specs.NodeOpening.Opening.{HasOpenCause}
+use Rattle.completing_lines.specs.Play.PlayFault.{PlayFault}
+use Rattle.completing_lines.specs.Play.PlayFault.TheVariants as play
 use Rattle.hd_base.specs.RoadFaults.{RoadsFailed}
-use Rattle.play_lines.specs.declared.playing.Playing.{Playing}
-use Rattle.play_lines.specs.Shelves.{IsLineFault}
+use Rattle.completing_lines.specs.PlayLines.Playing.{Playing}
+use Rattle.completing_lines.specs.PlayLines.Shelves.{IsLineFault}
 use Rattle.play_report.specs.declared.faults.ReportFault.{ReportFault}
 use Rattle.play_report.specs.declared.faults.ReportFault.TheVariants as report
 use Rattle.play_report.specs.Rows.{IsNodesFault}

@@ -7,12 +7,12 @@ use Rattle.hd_base.specs.declared.files.Files as files
 use Rattle.hd_base.specs.declared.roads.Roads as roads
 use Rattle.hd_base.specs.declared.shelves.Shelf as shelves
 use Rattle.script_lang.specs.declared.instructions.ScriptLine.{ScriptLine}
-use Rattle.node_opening.specs.Shelves.{EachShelf, LendsNoMore}
-use Rattle.node_opening.proofs.ListLemmas.{UpTo, get_within, up_to_all}
-use Rattle.play_nodes.proofs.PlaceLaws.{element_none}
-use Rattle.play_scripts.specs.declared.heads.Head.{Head}
-use Rattle.play_scripts.specs.Fitting.{ScriptFits}
-use Rattle.play_scripts.specs.Heads.{head_of}
+use Rattle.play_report.specs.NodeOpening.Shelves.{EachShelf, LendsNoMore}
+use Rattle.play_report.proofs.NodeOpening.ListLemmas.{UpTo, get_within, up_to_all}
+use Rattle.play_report.proofs.PlayNodes.PlaceLaws.{element_none}
+use Rattle.play_report.specs.PlayScripts.Head.{Head}
+use Rattle.play_report.specs.PlayScripts.Fitting.{ScriptFits}
+use Rattle.play_report.specs.PlayScripts.Heads.{head_of}
 use Rattle.whole_play.specs.declared.faults.RunFault.{RunFault}
 use Rattle.whole_play.specs.declared.playing.Played.{Played}
 use Rattle.whole_play.specs.Playing.{IsClosed, IsPlayed, LeavesShelves, HasCause, HasUsedCause}

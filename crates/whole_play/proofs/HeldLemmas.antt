@@ -17,16 +17,16 @@ use Rattle.replica_model.specs.Rows.{FullReplica}
 use Rattle.road_traffic.specs.Showing.{Net}
 use Rattle.world.specs.Safe.{Has}
 use Rattle.world.specs.Worlds.{World}
-use Rattle.play_nodes.specs.declared.nodes.NodeBooks.{NodeBooks}
-use Rattle.play_nodes.specs.declared.nodes.Nodes.{Nodes}
-use Rattle.play_nodes.specs.Showing.{NodesShow}
-use Rattle.play_nodes.proofs.PlaceLaws.{element_within, book_found}
-use Rattle.play_scripts.specs.Blocks.{numbers}
-use Rattle.node_opening.specs.Shelves.{AreDistinct, IsEmpty}
-use Rattle.node_opening.proofs.ListLemmas.{get_take, get_within}
+use Rattle.play_report.specs.PlayNodes.NodeBooks.{NodeBooks}
+use Rattle.play_report.specs.PlayNodes.Nodes.{Nodes}
+use Rattle.play_report.specs.PlayNodes.Showing.{NodesShow}
+use Rattle.play_report.proofs.PlayNodes.PlaceLaws.{element_within, book_found}
+use Rattle.play_report.specs.PlayScripts.Blocks.{numbers}
+use Rattle.play_report.specs.NodeOpening.Shelves.{AreDistinct, IsEmpty}
+use Rattle.play_report.proofs.NodeOpening.ListLemmas.{get_take, get_within}
 use Rattle.whole_play.specs.Holding.{HoldsWorld}
 use Rattle.whole_play.proofs.ClosedLemmas.{Stands, stands}
-use Rattle.node_opening.specs.Closing.{block_of, files_with, books_within, AreOf, NodeCloses}
+use Rattle.play_report.specs.NodeOpening.Closing.{block_of, files_with, books_within, AreOf, NodeCloses}
 
 -- NAMES
 

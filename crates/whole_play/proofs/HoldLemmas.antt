@@ -7,21 +7,21 @@ use Rattle.hd_base.specs.declared.roads.Roads as roads
 use Rattle.hd_base.specs.declared.shelves.Shelf as shelves
 use Rattle.script_lang.specs.declared.instructions.ScriptLine.{ScriptLine}
 use Rattle.world.specs.Worlds.{World}
-use Rattle.world_laws.specs.Filling.{AllFilled}
+use Rattle.play_model.specs.WorldLaws.Filling.{AllFilled}
 use Rattle.play_model.specs.Lines.{blocks_of}
 use Rattle.play_model.specs.States.{world_of}
-use Rattle.play_scripts.specs.Blocks.{numbers}
-use Rattle.node_opening.specs.Closing.{NodesClose}
-use Rattle.node_opening.specs.Laws.{ShownFit, FitEach}
-use Rattle.node_opening.specs.Shelves.{AllEmpty}
-use Rattle.node_opening.specs.Standing.{ShelvesStand, AllLentOut}
-use Rattle.play_lines.specs.declared.playing.Playing.{Playing}
+use Rattle.play_report.specs.PlayScripts.Blocks.{numbers}
+use Rattle.play_report.specs.NodeOpening.Closing.{NodesClose}
+use Rattle.play_report.specs.NodeOpening.Laws.{ShownFit, FitEach}
+use Rattle.play_report.specs.NodeOpening.Shelves.{AllEmpty}
+use Rattle.play_report.specs.NodeOpening.Standing.{ShelvesStand, AllLentOut}
+use Rattle.completing_lines.specs.PlayLines.Playing.{Playing}
 use Rattle.whole_play.specs.declared.playing.Played.{Played}
 use Rattle.whole_play.specs.Holding.{HoldsWorld}
 use Rattle.whole_play.specs.Playing.{IsOver, IsClosed}
 use Rattle.whole_play.proofs.ClosedLemmas.{Stands, stands}
 use Rattle.whole_play.proofs.HeldLemmas.{shelf_holds}
-use Rattle.play_nodes.proofs.PlaceLaws.{element_within}
+use Rattle.play_report.proofs.PlayNodes.PlaceLaws.{element_within}
 
 module _ {S D R I O : Type 0} (s : shelves.Ghosts S D) (d : files.Ghosts D) (r : roads.Ghosts R I O) (i : link_in.Ghosts I) (o : link_out.Ghosts O) where
   pub closed_so : (script : List ScriptLine) (old after closed : List S) (road : R) (y : Playing D I O) (p : Played) → AllEmpty s old → ShelvesStand s old after y.player.nodes → AllLentOut s after y.player.nodes

@@ -7,3 +7,6 @@ mod HeldLemmas
 mod HoldLemmas
 mod LentLemmas
 mod FrontLemmas
+pub mod NodeOpening
+pub mod WorldAcks
+pub mod WorldOrders

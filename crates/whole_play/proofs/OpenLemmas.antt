@@ -14,28 +14,28 @@ use Rattle.script_lang.specs.declared.instructions.ScriptLine.{ScriptLine}
 use Rattle.world.specs.Safe.{Has}
 use Rattle.world.specs.Worlds.{start}
 use Rattle.writer_core.specs.declared.intake.TheConstants.{MAX_COMMANDS}
-use Rattle.node_opening.specs.Shelves.{AreDistinct}
+use Rattle.play_report.specs.NodeOpening.Shelves.{AreDistinct}
 use Rattle.play_model.specs.States.{opened}
-use Rattle.play_clients.specs.declared.clients.Client.{Client}
-use Rattle.play_dues.specs.declared.live.LiveConns.{LiveConns}
-use Rattle.play_dues.specs.Live.{CoversNone}
-use Rattle.play_dues.specs.Showing.{HasClient}
-use Rattle.play.specs.declared.player.Player.{Player}
-use Rattle.play.specs.Events.{blocks_of}
-use Rattle.play.specs.Standing.{PlayStands, world_of}
-use Rattle.play_opening.specs.Opening.{IsOpenedPlay, no_commands}
-use Rattle.play_scripts.specs.declared.heads.Head.{Head}
-use Rattle.play_scripts.specs.Blocks.{AreAllCreated, AreBlocks}
-use Rattle.play_scripts.specs.Fitting.{begun}
+use Rattle.play_report.specs.PlayClients.Client.{Client}
+use Rattle.completing_lines.specs.PlayDues.LiveConns.{LiveConns}
+use Rattle.completing_lines.specs.PlayDues.Live.{CoversNone}
+use Rattle.completing_lines.specs.PlayDues.Showing.{HasClient}
+use Rattle.completing_lines.specs.Play.Player.{Player}
+use Rattle.completing_lines.specs.Play.Events.{blocks_of}
+use Rattle.completing_lines.specs.Play.Standing.{PlayStands, world_of}
+use Rattle.completing_lines.specs.PlayOpening.Opening.{IsOpenedPlay, no_commands}
+use Rattle.play_report.specs.PlayScripts.Head.{Head}
+use Rattle.play_report.specs.PlayScripts.Blocks.{AreAllCreated, AreBlocks}
+use Rattle.play_report.specs.PlayScripts.Fitting.{begun}
 use Rattle.play_model.specs.declared.recoveries.Recovery.{Recovery}
-use Rattle.play_primaries.specs.declared.clients.PrimaryClient.{PrimaryClient}
-use Rattle.play_recoveries.specs.Places.{recoveries_of}
+use Rattle.play_report.specs.PlayPrimaries.PrimaryClient.{PrimaryClient}
+use Rattle.completing_lines.specs.PlayRecoveries.Places.{recoveries_of}
 use Rattle.play_model.specs.declared.asks.ReadAsk.{ReadAsk}
-use Rattle.play_readers.specs.declared.clients.ReadClient.{ReadClient}
-use Rattle.play_readers.specs.Asks.{asks_of}
-use Rattle.play_lines.specs.declared.playing.Playing.{Playing}
-use Rattle.play_lines.specs.Lines.{GivenIs, IsBehind, CreatesHere, AllCreateHere}
-use Rattle.play_lines.specs.Showing.{given_in}
+use Rattle.play_report.specs.PlayReaders.ReadClient.{ReadClient}
+use Rattle.play_report.specs.PlayReaders.Asks.{asks_of}
+use Rattle.completing_lines.specs.PlayLines.Playing.{Playing}
+use Rattle.completing_lines.specs.PlayLines.Lines.{GivenIs, IsBehind, CreatesHere, AllCreateHere}
+use Rattle.completing_lines.specs.PlayLines.Showing.{given_in}
 use Rattle.whole_play.specs.Opening.{HeadFits, first_of, Begins, HasOpened}
 
 -- NOTHING WAS GIVEN

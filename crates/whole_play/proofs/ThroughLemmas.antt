@@ -15,29 +15,29 @@ use Rattle.script_lang.specs.declared.instructions.ScriptLine.{ScriptLine}
 use Rattle.world.specs.declared.events.Event.{Event}
 use Rattle.world.specs.Worlds.{World, start}
 use Rattle.world.specs.Events.{run}
-use Rattle.world_nets.specs.Nets.{IsNetOf}
-use Rattle.world_nets.specs.Rows.{rows_of, text_of}
-use Rattle.world_nets.specs.Starts.{NetsCarry}
+use Rattle.play_report.specs.WorldNets.Nets.{IsNetOf}
+use Rattle.play_report.specs.WorldNets.Rows.{rows_of, text_of}
+use Rattle.play_report.specs.WorldNets.Starts.{NetsCarry}
 use Rattle.play_model.specs.States.{PlayState, opened}
 use Rattle.play_model.specs.States as states
 use Rattle.play_model.specs.Lines.{Plays, PlaysLines, blocks_of}
-use Rattle.play_laws.specs.Nodes.{OnlyNodesRun}
-use Rattle.play_clients.specs.declared.clients.Client.{Client}
-use Rattle.play_clients.specs.Blocks as client_blocks
-use Rattle.play_nodes.specs.Showing.{NodesShow}
-use Rattle.play.specs.Events as events
-use Rattle.play.specs.declared.faults.PlayFault.{PlayFault}
-use Rattle.play_scripts.specs.declared.heads.Head.{Head}
-use Rattle.play_scripts.specs.Blocks.{numbers}
-use Rattle.play_scripts.specs.Fitting.{begun}
-use Rattle.play_scripts.specs.Reads.{read_numbers, readers_of, PlaysAskByNumber}
-use Rattle.play_scripts.specs.Recoveries.{recovery_numbers, primaries_of, PlaysRecoverByNumber}
-use Rattle.play_primaries.specs.Clients.{PrimaryClientShows}
-use Rattle.play_readers.specs.Clients.{ReadClientShows}
-use Rattle.play_lines.specs.declared.playing.Playing.{Playing}
-use Rattle.play_lines.specs.Drawing.{blocks_in}
-use Rattle.play_lines.specs.Lines.{LinesLeft, LinesEnd, LinesShow, IsReady}
-use Rattle.play_lines.specs.Showing.{PlayIs}
+use Rattle.play_report.specs.PlayLaws.Nodes.{OnlyNodesRun}
+use Rattle.play_report.specs.PlayClients.Client.{Client}
+use Rattle.play_report.specs.PlayClients.Blocks as client_blocks
+use Rattle.play_report.specs.PlayNodes.Showing.{NodesShow}
+use Rattle.completing_lines.specs.Play.Events as events
+use Rattle.completing_lines.specs.Play.PlayFault.{PlayFault}
+use Rattle.play_report.specs.PlayScripts.Head.{Head}
+use Rattle.play_report.specs.PlayScripts.Blocks.{numbers}
+use Rattle.play_report.specs.PlayScripts.Fitting.{begun}
+use Rattle.play_report.specs.PlayScripts.Reads.{read_numbers, readers_of, PlaysAskByNumber}
+use Rattle.play_report.specs.PlayScripts.Recoveries.{recovery_numbers, primaries_of, PlaysRecoverByNumber}
+use Rattle.play_report.specs.PlayPrimaries.Clients.{PrimaryClientShows}
+use Rattle.play_report.specs.PlayReaders.Clients.{ReadClientShows}
+use Rattle.completing_lines.specs.PlayLines.Playing.{Playing}
+use Rattle.completing_lines.specs.PlayLines.Drawing.{blocks_in}
+use Rattle.completing_lines.specs.PlayLines.Lines.{LinesLeft, LinesEnd, LinesShow, IsReady}
+use Rattle.completing_lines.specs.PlayLines.Showing.{PlayIs}
 use Rattle.play_report.specs.Laws.{StillShow}
 use Rattle.play_report.specs.Reports.{NodesAre, ClientsAre, ReadersAre, PrimariesAre}
 use Rattle.play_report.specs.Rows.{LeavesAll}

@@ -4,12 +4,12 @@ use Rattle.hd_base.specs.declared.files.Files as files
 use Rattle.hd_base.specs.declared.numbers.BlockId.{BlockId}
 use Rattle.hd_base.specs.declared.shelves.Shelf as shelves
 use Rattle.script_lang.specs.declared.instructions.ScriptLine.{ScriptLine}
-use Rattle.play_nodes.specs.declared.nodes.NodeBooks.{NodeBooks}
-use Rattle.play_nodes.specs.declared.nodes.Nodes.{Nodes}
-use Rattle.play_nodes.proofs.PlaceLaws.{element_within}
-use Rattle.play_scripts.specs.Unplayed.{LinesAreTold}
-use Rattle.node_opening.specs.Shelves.{AreDistinct}
-use Rattle.node_opening.specs.Standing.{ShelfStands, AllLentOut, ShelvesStay}
+use Rattle.play_report.specs.PlayNodes.NodeBooks.{NodeBooks}
+use Rattle.play_report.specs.PlayNodes.Nodes.{Nodes}
+use Rattle.play_report.proofs.PlayNodes.PlaceLaws.{element_within}
+use Rattle.play_report.specs.PlayScripts.Unplayed.{LinesAreTold}
+use Rattle.play_report.specs.NodeOpening.Shelves.{AreDistinct}
+use Rattle.play_report.specs.NodeOpening.Standing.{ShelfStands, AllLentOut, ShelvesStay}
 use Rattle.play_report.specs.Rows.{LeavesAll}
 use Rattle.whole_play.proofs.ClosedLemmas.{Stands, stands}
 

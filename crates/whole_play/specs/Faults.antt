@@ -1,8 +1,8 @@
 -- The faults of a whole play, by those of its parts.
-use Rattle.node_opening.specs.declared.faults.OpenFault.{OpenFault}
-use Rattle.node_opening.specs.declared.faults.OpenFault.TheVariants as opening
-use Rattle.play.specs.declared.faults.PlayFault.{PlayFault}
-use Rattle.play.specs.declared.faults.PlayFault.TheVariants as play
+use Rattle.play_report.specs.NodeOpening.OpenFault.{OpenFault}
+use Rattle.play_report.specs.NodeOpening.OpenFault.TheVariants as opening
+use Rattle.completing_lines.specs.Play.PlayFault.{PlayFault}
+use Rattle.completing_lines.specs.Play.PlayFault.TheVariants as play
 use Rattle.play_report.specs.declared.faults.ReportFault.{ReportFault}
 use Rattle.play_report.specs.declared.faults.ReportFault.TheVariants as report
 use Rattle.whole_play.specs.declared.faults.RunFault.{RunFault}

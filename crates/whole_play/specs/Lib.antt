@@ -3,3 +3,8 @@ pub mod Holding
 pub mod Opening
 pub mod Playing
 pub mod Unused
+pub mod NodeOpening
+pub mod PlayCompleteness
+pub mod PlayModel
+pub mod PlayReport
+pub mod PlayScripts

@@ -10,17 +10,17 @@ use Rattle.script_lang.specs.declared.instructions.Instruction.TheVariants as sa
 use Rattle.script_lang.specs.declared.instructions.ScriptLine.{ScriptLine}
 use Rattle.script_lang.specs.Grammar.{numbered}
 use Rattle.writer_core.specs.declared.intake.TheConstants.{MAX_COMMANDS}
-use Rattle.node_opening.specs.Shelves.{AreDistinct}
-use Rattle.play.specs.Events as events
+use Rattle.play_report.specs.NodeOpening.Shelves.{AreDistinct}
+use Rattle.completing_lines.specs.Play.Events as events
 use Rattle.play_model.specs.States.{PlayState, opened}
-use Rattle.play_opening.specs.Opening.{IsOpenedPlay}
-use Rattle.play_scripts.specs.declared.heads.Head.{Head}
-use Rattle.play_scripts.specs.Blocks.{AreBlocks}
-use Rattle.play_scripts.specs.Numbering.{LinesAscend}
-use Rattle.play_scripts.specs.Fitting.{LinesFit, begun}
-use Rattle.play_lines.specs.declared.playing.Playing.{Playing}
-use Rattle.play_lines.specs.Lines.{CanPlay}
-use Rattle.play_lines.specs.Showing.{PlayIs}
+use Rattle.completing_lines.specs.PlayOpening.Opening.{IsOpenedPlay}
+use Rattle.play_report.specs.PlayScripts.Head.{Head}
+use Rattle.play_report.specs.PlayScripts.Blocks.{AreBlocks}
+use Rattle.play_report.specs.PlayScripts.Numbering.{LinesAscend}
+use Rattle.play_report.specs.PlayScripts.Fitting.{LinesFit, begun}
+use Rattle.completing_lines.specs.PlayLines.Playing.{Playing}
+use Rattle.completing_lines.specs.PlayLines.Lines.{CanPlay}
+use Rattle.completing_lines.specs.PlayLines.Showing.{PlayIs}
 
 -- HEADS
 

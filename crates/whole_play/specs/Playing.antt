@@ -9,18 +9,18 @@ use Rattle.hd_base.specs.declared.shelves.Shelf as shelves
 use Rattle.road_traffic.specs.Showing.{Net}
 use Rattle.script_lang.specs.declared.instructions.ScriptLine.{ScriptLine}
 use Rattle.world.specs.Worlds.{World}
-use Rattle.world_nets.specs.Rows.{rows_of, text_of}
-use Rattle.node_opening.specs.Emptiness.{ShelfRose, HasFirstFile}
-use Rattle.node_opening.specs.Shelves.{AllEmpty, EachShelf, LendsNoMore}
+use Rattle.play_report.specs.WorldNets.Rows.{rows_of, text_of}
+use Rattle.play_report.specs.NodeOpening.Emptiness.{ShelfRose, HasFirstFile}
+use Rattle.play_report.specs.NodeOpening.Shelves.{AllEmpty, EachShelf, LendsNoMore}
 use Rattle.hd_base.specs.RoadFaults.{RoadsFailed}
 use Rattle.play_model.specs.States.{PlayState, world_of}
 use Rattle.play_model.specs.Lines.{Plays, blocks_of}
-use Rattle.play_scripts.specs.declared.heads.Head.{Head}
-use Rattle.play_scripts.specs.Blocks.{numbers}
-use Rattle.play_scripts.specs.Heads.{head_of}
-use Rattle.play_nodes.specs.Showing.{NodesShow}
-use Rattle.play_lines.specs.declared.playing.Playing.{Playing}
-use Rattle.play_lines.specs.Drawing.{HasFailed}
+use Rattle.play_report.specs.PlayScripts.Head.{Head}
+use Rattle.play_report.specs.PlayScripts.Blocks.{numbers}
+use Rattle.play_report.specs.PlayScripts.Heads.{head_of}
+use Rattle.play_report.specs.PlayNodes.Showing.{NodesShow}
+use Rattle.completing_lines.specs.PlayLines.Playing.{Playing}
+use Rattle.completing_lines.specs.PlayLines.Drawing.{HasFailed}
 use Rattle.play_report.specs.Expecting.{differing}
 use Rattle.play_report.specs.Replicas.{sums_in}
 use Rattle.play_report.specs.Reports.{report_text, NodesAre, ClientsAre, ReadersAre, PrimariesAre}

@@ -2,10 +2,9 @@
 
 ghost use Rattle.std.specs.Prelude.{◌≡◌};
 
+use completing_lines::PlayFault;
 use hd_base::{FileName, NodeId};
-use node_opening::OpenFault;
-use play::PlayFault;
-use play_report::ReportFault;
+use play_report::{OpenFault, ReportFault};
 use std::alloc::AllocError;
 use thiserror::Error;
 

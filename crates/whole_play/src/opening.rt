@@ -1,17 +1,14 @@
 //! The play of a script is opened.
 
 ghost use Rattle.std.specs.Prelude.{◌≡◌, ◌≤◌, length, IfOk, IfErr, OnErr};
-ghost use Rattle.node_opening.specs.Listening.{AreUnused};
-ghost use Rattle.node_opening.specs.Opening.{HasOpenCause};
-ghost use Rattle.node_opening.specs.Shelves.{EachShelf, IsGivenBack};
+ghost use Rattle.play_report.specs.NodeOpening.Listening.{AreUnused};
+ghost use Rattle.play_report.specs.NodeOpening.Opening.{HasOpenCause};
+ghost use Rattle.play_report.specs.NodeOpening.Shelves.{EachShelf, IsGivenBack};
 ghost use Rattle.whole_play.specs.Opening.{HeadFits, Begins, HasOpened};
 
+use completing_lines::{LiveConns, Playing, open_player};
 use hd_base::{Roads, Shelf};
-use node_opening::OpenFault;
-use play_dues::LiveConns;
-use play_lines::Playing;
-use play_opening::open_player;
-use play_scripts::{Head, blocks_of};
+use play_report::{Head, OpenFault, blocks_of};
 use rand_pcg::Lcg64Xsh32;
 use script_lang::ScriptLine;
 use std::alloc::Global;

@@ -1,39 +1,33 @@
 //! A script is played.
 
 ghost use Rattle.std.specs.Prelude.{◌≡◌, length, drop, IfOk, IfErr, IfSome, OnOk};
-ghost use Rattle.member_events.specs.Roads.{RoadsPass};
-ghost use Rattle.node_opening.specs.Listening.{AreUnused};
-ghost use Rattle.node_opening.specs.Shelves.{EachShelf, LendsNoMore};
-ghost use Rattle.node_opening.specs.Standing.{AllLentOut, ShelvesStay};
-ghost use Rattle.play_lines.specs.Shelves.{ShelvesServe};
+ghost use Rattle.play_report.specs.MemberEvents.Roads.{RoadsPass};
+ghost use Rattle.play_report.specs.NodeOpening.Listening.{AreUnused};
+ghost use Rattle.play_report.specs.NodeOpening.Shelves.{EachShelf, LendsNoMore};
+ghost use Rattle.play_report.specs.NodeOpening.Standing.{AllLentOut, ShelvesStay};
+ghost use Rattle.completing_lines.specs.PlayLines.Shelves.{ShelvesServe};
 ghost use Rattle.play_report.specs.Rows.{LeavesAll};
-ghost use Rattle.play_scripts.specs.Fitting.{ScriptFits};
-ghost use Rattle.play_scripts.specs.Heads.{head_of};
-ghost use Rattle.play_scripts.specs.Unplayed.{LinesAreTold};
+ghost use Rattle.play_report.specs.PlayScripts.Fitting.{ScriptFits};
+ghost use Rattle.play_report.specs.PlayScripts.Heads.{head_of};
+ghost use Rattle.play_report.specs.PlayScripts.Unplayed.{LinesAreTold};
 ghost use Rattle.whole_play.specs.Opening.{HasHead, HeadFits};
 ghost use Rattle.whole_play.specs.Playing.{BeginsScript, IsOver, IsThroughFault, IsToldOf, IsReportFault};
 ghost use Rattle.whole_play.specs.Playing.{IsClosed, IsPlayed, LeavesShelves, HasCause, HasUsedCause};
 
 use crate::faults::RunFault;
 use crate::opening::open_play;
+use completing_lines::Playing;
 use fault_ports::CutRoads;
 use hd_base::{Files, LinkIn, LinkOut};
-use node_opening::{
-    close_nodes, fitting_books_are_of_blocks, opened_nodes_stand, shown_nodes_fit,
-    standing_nodes_close,
-};
-use play_laws::only_nodes_run;
-use play_lines::Playing;
-use play_nodes::Nodes;
+use play_model::replicas_have_their_bytes;
 use play_report::{
-    Difference, first_difference, reports_are_true, reports_keep_nodes, write_report,
+    Difference, Head, Nodes, close_nodes, first_difference, fitting_books_are_of_blocks, head_of,
+    nets_carry, only_nodes_run, opened_nodes_stand, plays_ask_by_number, plays_recover_by_number,
+    reports_are_true, reports_keep_nodes, shown_nodes_fit, standing_nodes_close, write_report,
 };
-use play_scripts::{Head, head_of, plays_ask_by_number, plays_recover_by_number};
 use script_lang::ScriptLine;
 use std::alloc::Global;
 use told_shelves::ToldShelf;
-use world_laws::replicas_have_their_bytes;
-use world_nets::nets_carry;
 
 /// How many lines the head has.
 const HEAD_LINES: usize = 2;

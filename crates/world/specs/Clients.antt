@@ -2,14 +2,14 @@
 use Rattle.std.specs.Prelude.{ℕ, ◌==◌, ◌&&◌, nat_le, not, is_none, if◌then◌else◌, Bool, true, false, List, [], ◌∷◌, length, find, Option, Some, None, Ok, Err}
 use Rattle.std.specs.List.{list_any}
 use Rattle.std.specs.Cmp.Lexicographic.{pointwise}
-use Rattle.hd_base.specs.declared.numbers.NodeId.{NodeId}
-use Rattle.hd_base.specs.declared.pipeline.TheConstants.{MAX_MEMBERS}
-use Rattle.hd_base.specs.declared.sum_rule.TheConstants.{MIN_CHUNK_SIZE, MAX_CHUNK_SIZE}
-use Rattle.hd_base.specs.declared.states.Status.TheVariants as status
-use Rattle.hd_base.specs.SumRules.{Rule}
-use Rattle.op_headers.specs.declared.ops.Op.{Op}
-use Rattle.op_headers.specs.declared.ops.Op.TheVariants as op
-use Rattle.op_headers.specs.declared.ops.ReadOp.{ReadOp}
+use Rattle.member_core.specs.HdBase.NodeId.{NodeId}
+use Rattle.member_core.specs.HdBase.TheConstants.{MAX_MEMBERS}
+use Rattle.member_core.specs.HdBase.SumRuleTheConstants.{MIN_CHUNK_SIZE, MAX_CHUNK_SIZE}
+use Rattle.member_core.specs.HdBase.Status.TheVariants as status
+use Rattle.member_core.specs.HdBase.SumRules.{Rule}
+use Rattle.member_core.specs.OpHeaders.Op.{Op}
+use Rattle.member_core.specs.OpHeaders.Op.TheVariants as op
+use Rattle.member_core.specs.OpHeaders.ReadOp.{ReadOp}
 use Rattle.node_refs.specs.NodeRefs.{ref_of}
 use Rattle.packet_stream.specs.Streams.{begun, fill_bytes, written_in}
 use Rattle.member_core.specs.Requests.{first_address}

@@ -8,3 +8,17 @@ pub mod Restarts
 pub mod Events
 pub mod Enabled
 pub mod Safe
+pub mod AckCodec
+pub mod ChunkSums
+pub mod MemberCore
+pub mod NameCore
+pub mod NodeRefs
+pub mod OpHeaders
+pub mod PacketCodec
+pub mod PacketStream
+pub mod ReadCore
+pub mod RecoveryCore
+pub mod ReplicaCore
+pub mod ReplicaModel
+pub mod RequestRefusals
+pub mod WriterCore

@@ -1,20 +1,20 @@
 -- The lower ends of connections, at nodes: requests, members of pipelines, reads that are served, and a member's part of block recoveries.
 use Rattle.std.specs.Prelude.{ℕ, ◌-◌, ◌&&◌, nat_le, is_some, if◌then◌else◌, Bool, true, false, List, [], ◌∷◌, length, Option, Some, None, Result, Ok, Err}
-use Rattle.hd_base.specs.declared.numbers.Stamp.{Stamp}
-use Rattle.hd_base.specs.declared.roads.TheConstants.{FIRST_PORT}
-use Rattle.packet_codec.specs.declared.packets.Packet.{Packet}
-use Rattle.op_headers.specs.declared.nodes.NodeRef.{NodeRef}
-use Rattle.op_headers.specs.declared.ops.Op.TheVariants as op
-use Rattle.op_headers.specs.declared.ops.ReadOp.{ReadOp}
-use Rattle.op_headers.specs.declared.ops.RecoveryOp.{RecoveryOp}
-use Rattle.op_headers.specs.Values.{WriteFields}
+use Rattle.member_core.specs.HdBase.Stamp.{Stamp}
+use Rattle.member_core.specs.HdBase.RoadsTheConstants.{FIRST_PORT}
+use Rattle.member_core.specs.PacketCodec.Packet.{Packet}
+use Rattle.member_core.specs.OpHeaders.NodeRef.{NodeRef}
+use Rattle.member_core.specs.OpHeaders.Op.TheVariants as op
+use Rattle.member_core.specs.OpHeaders.ReadOp.{ReadOp}
+use Rattle.member_core.specs.OpHeaders.RecoveryOp.{RecoveryOp}
+use Rattle.member_core.specs.OpHeaders.Values.{WriteFields}
 use Rattle.node_refs.specs.NodeRefs.{ref_of}
-use Rattle.replica_core.specs.declared.events.Event.{Event}
-use Rattle.replica_core.specs.Views.{rule_in, stamp_in}
-use Rattle.replica_model.specs.declared.events.ReplicaEvent.{ReplicaEvent}
-use Rattle.replica_model.specs.declared.events.ReplicaEvent.TheVariants as replica_event
-use Rattle.replica_model.specs.Rows.{FullReplica}
-use Rattle.request_refusals.specs.declared.refusals.RequestRefusal.{RequestRefusal}
+use Rattle.member_core.specs.ReplicaCore.Event.{Event}
+use Rattle.member_core.specs.ReplicaCore.Views.{rule_in, stamp_in}
+use Rattle.member_core.specs.ReplicaModel.ReplicaEvent.{ReplicaEvent}
+use Rattle.member_core.specs.ReplicaModel.ReplicaEvent.TheVariants as replica_event
+use Rattle.member_core.specs.ReplicaModel.Rows.{FullReplica}
+use Rattle.member_core.specs.RequestRefusals.RequestRefusal.{RequestRefusal}
 use Rattle.member_core.specs.declared.effects.Shuts.{Shuts}
 use Rattle.member_core.specs.declared.effects.Shuts.TheVariants as shuts
 use Rattle.member_core.specs.declared.effects.Upward.{Upward}

@@ -1,18 +1,18 @@
 -- The parts of the world: messages, connections and their two ends, those that act by themselves, and the entries of the records that only grow.
 use Rattle.std.specs.Prelude.{ℕ, Bool, false, List, Option, None, Result}
-use Rattle.hd_base.specs.declared.numbers.BlockId.{BlockId}
-use Rattle.hd_base.specs.declared.numbers.NodeId.{NodeId}
-use Rattle.hd_base.specs.declared.states.Status.{Status}
-use Rattle.ack_codec.specs.declared.acks.Ack.{Ack}
-use Rattle.ack_codec.specs.declared.responses.Response.{Response}
-use Rattle.packet_codec.specs.declared.packets.Packet.{Packet}
-use Rattle.op_headers.specs.declared.answers.RecoveryAnswer.{RecoveryAnswer}
-use Rattle.op_headers.specs.declared.ops.Op.{Op}
-use Rattle.op_headers.specs.Values.{WriteFields}
+use Rattle.member_core.specs.HdBase.BlockId.{BlockId}
+use Rattle.member_core.specs.HdBase.NodeId.{NodeId}
+use Rattle.member_core.specs.HdBase.Status.{Status}
+use Rattle.member_core.specs.AckCodec.Ack.{Ack}
+use Rattle.member_core.specs.AckCodec.Response.{Response}
+use Rattle.member_core.specs.PacketCodec.Packet.{Packet}
+use Rattle.member_core.specs.OpHeaders.RecoveryAnswer.{RecoveryAnswer}
+use Rattle.member_core.specs.OpHeaders.Op.{Op}
+use Rattle.member_core.specs.OpHeaders.Values.{WriteFields}
 use Rattle.name_core.specs.declared.calls.OfficeAnswer.{OfficeAnswer}
 use Rattle.name_core.specs.declared.faults.OfficeFault.{OfficeFault}
-use Rattle.replica_model.specs.declared.events.ReplicaEvent.{ReplicaEvent}
-use Rattle.replica_model.specs.Rows.{FullReplica}
+use Rattle.member_core.specs.ReplicaModel.ReplicaEvent.{ReplicaEvent}
+use Rattle.member_core.specs.ReplicaModel.Rows.{FullReplica}
 use Rattle.member_core.specs.Members.{MemberState}
 use Rattle.writer_core.specs.declared.actions.ClientAnswer.{ClientAnswer}
 use Rattle.writer_core.specs.declared.records.WriterRecord.{WriterRecord}

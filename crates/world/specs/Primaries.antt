@@ -1,10 +1,10 @@
 -- Primaries, and what the office answers writers and primaries.
 use Rattle.std.specs.Prelude.{ℕ, ◌==◌, ◌+◌, ◌&&◌, not, is_none, if◌then◌else◌, Bool, true, false, List, [], ◌∷◌, take, zip, slice_get, Option, Some, None, Ok, Err}
 use Rattle.std.specs.List.{list_any}
-use Rattle.hd_base.specs.declared.numbers.BlockId.{BlockId}
-use Rattle.hd_base.specs.declared.numbers.NodeId.{NodeId}
-use Rattle.op_headers.specs.declared.ops.Op.TheVariants as op
-use Rattle.op_headers.specs.declared.ops.RecoveryKind.TheVariants as kind
+use Rattle.member_core.specs.HdBase.BlockId.{BlockId}
+use Rattle.member_core.specs.HdBase.NodeId.{NodeId}
+use Rattle.member_core.specs.OpHeaders.Op.TheVariants as op
+use Rattle.member_core.specs.OpHeaders.RecoveryKind.TheVariants as kind
 use Rattle.name_core.specs.declared.calls.Begun.{Begun}
 use Rattle.name_core.specs.declared.calls.OfficeAnswer.TheVariants as office
 use Rattle.name_core.specs.declared.calls.OfficeCall.{OfficeCall}

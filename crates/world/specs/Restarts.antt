@@ -2,17 +2,17 @@
 use Rattle.std.specs.Prelude.{ℕ, ◌==◌, ◌+◌, ◌&&◌, ◌||◌, not, is_none, find, if◌then◌else◌, Bool, true, false, List, [], length, option_map, Option, Some, None}
 use Rattle.std.specs.List.{starts_with}
 use Rattle.std.specs.Cmp.Lexicographic.{pointwise}
-use Rattle.hd_base.specs.declared.numbers.Stamp.{Stamp}
-use Rattle.hd_base.specs.declared.states.ReplicaState.{ReplicaState}
-use Rattle.hd_base.specs.declared.states.ReplicaState.TheVariants as state
-use Rattle.hd_base.specs.SumRules.{Rule, kind_number}
-use Rattle.hd_base.specs.Wire.{state_number}
-use Rattle.replica_core.specs.declared.info.ReplicaInfo.{ReplicaInfo}
-use Rattle.replica_core.specs.Info.{is_finalized, is_temporary, settled_at}
-use Rattle.replica_core.specs.Transitions.{found}
-use Rattle.replica_model.specs.Rows.{FullReplica, row, nothing}
-use Rattle.replica_model.specs.Plans.{plan, has_changing}
-use Rattle.replica_model.specs.Found.{Found, found_whole}
+use Rattle.member_core.specs.HdBase.Stamp.{Stamp}
+use Rattle.member_core.specs.HdBase.ReplicaState.{ReplicaState}
+use Rattle.member_core.specs.HdBase.ReplicaState.TheVariants as state
+use Rattle.member_core.specs.HdBase.SumRules.{Rule, kind_number}
+use Rattle.member_core.specs.HdBase.Wire.{state_number}
+use Rattle.member_core.specs.ReplicaCore.ReplicaInfo.{ReplicaInfo}
+use Rattle.member_core.specs.ReplicaCore.Info.{is_finalized, is_temporary, settled_at}
+use Rattle.member_core.specs.ReplicaCore.Transitions.{found}
+use Rattle.member_core.specs.ReplicaModel.Rows.{FullReplica, row, nothing}
+use Rattle.member_core.specs.ReplicaModel.Plans.{plan, has_changing}
+use Rattle.member_core.specs.ReplicaModel.Found.{Found, found_whole}
 use Rattle.world.specs.declared.events.FoundReplica.{FoundReplica}
 use Rattle.world.specs.Parts.{Break}
 use Rattle.world.specs.Worlds.{World, put}

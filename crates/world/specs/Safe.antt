@@ -1,11 +1,11 @@
 -- What is claimed of the world after every list of events.
 use Rattle.std.specs.Prelude.{ℕ, ◌≡◌, ◌≤◌, ◌<◌, true, false, List, length, take, slice_get, Some, None, IfSome}
-use Rattle.hd_base.specs.declared.numbers.NodeId.{NodeId}
-use Rattle.hd_base.specs.declared.states.ReplicaState.TheVariants as state
-use Rattle.replica_core.specs.declared.info.ReplicaInfo.{ReplicaInfo}
-use Rattle.replica_core.specs.Info.{state_of, visible_of}
-use Rattle.replica_model.specs.Rows.{FullReplica}
-use Rattle.replica_model.specs.Found.{IsFront}
+use Rattle.member_core.specs.HdBase.NodeId.{NodeId}
+use Rattle.member_core.specs.HdBase.ReplicaState.TheVariants as state
+use Rattle.member_core.specs.ReplicaCore.ReplicaInfo.{ReplicaInfo}
+use Rattle.member_core.specs.ReplicaCore.Info.{state_of, visible_of}
+use Rattle.member_core.specs.ReplicaModel.Rows.{FullReplica}
+use Rattle.member_core.specs.ReplicaModel.Found.{IsFront}
 use Rattle.world.specs.Parts.{by_close, Answered, Updated}
 use Rattle.world.specs.Worlds.{World}
 

@@ -1,8 +1,8 @@
 -- The world, what an event may change of it, and the world after such a change.
 use Rattle.std.specs.Prelude.{ℕ, ◌==◌, ◌+◌, ◌-◌, ◌&&◌, nat_lt, nat_le, if◌then◌else◌, Bool, false, List, [], ◌∷◌, ◌++◌, length, slice_get, unwrap_or, option_map, Option, Some, None}
-use Rattle.hd_base.specs.SumRules.{default_rule}
+use Rattle.member_core.specs.HdBase.SumRules.{default_rule}
 use Rattle.name_core.specs.Offices.{OfficeState, new_office}
-use Rattle.replica_model.specs.Rows.{FullReplica, nothing}
+use Rattle.member_core.specs.ReplicaModel.Rows.{FullReplica, nothing}
 use Rattle.writer_core.specs.Transitions.{fresh}
 use Rattle.world.specs.declared.events.Event.{Event}
 use Rattle.world.specs.Parts.{Message, by_writer, Dialled, Marks, new_marks, Lower, idle, Writing, Reader, no_reader, Primary, no_primary, Break, Answered, Said, Joined, Updated}

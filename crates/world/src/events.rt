@@ -1,8 +1,9 @@
 //! What may happen, as values.
 
 use crate::lists::{AnswerList, FoundList};
-use hd_base::{BlockId, ByteList, ConnId, Members, NodeId, ReplicaState, Stamp, SumRule};
-use op_headers::ReadOp;
+use member_core::{
+    BlockId, ByteList, ConnId, Members, NodeId, ReadOp, ReplicaState, Stamp, SumRule,
+};
 use writer_core::Command;
 
 /// A command that a writer takes, and the rule of the block's sums, which counts where the command makes the block.

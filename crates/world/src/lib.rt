@@ -7,3 +7,5 @@ mod lists;
 
 pub use events::{Caller, Delivery, Direction, Event, FoundReplica, OwnStep, TakenCommand};
 pub use lists::{AnswerList, EventList, FoundList, Schedule};
+pub use member_core::{BlockRef, ReadOp};
+pub use writer_core::POOL;

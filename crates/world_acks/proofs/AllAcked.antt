@@ -6,31 +6,31 @@ use Rattle.std.proofs.lemmas.Bool.{false≢true}
 use Rattle.std.proofs.lemmas.Option.{none-some}
 use Rattle.replica_model.specs.Rows.{FullReplica, IsFull}
 use Rattle.replica_model.specs.Found.{Found}
-use Rattle.world.specs.declared.events.Delivery.{Delivery}
-use Rattle.world.specs.declared.events.Delivery.TheVariants as delivery
-use Rattle.world.specs.declared.events.Direction.{Direction}
-use Rattle.world.specs.declared.events.Direction.TheVariants as direction
-use Rattle.world.specs.declared.events.Event.{Event}
-use Rattle.world.specs.declared.events.Event.TheVariants as event
-use Rattle.world.specs.declared.events.FoundReplica.{FoundReplica}
-use Rattle.world.specs.declared.events.OwnStep.{OwnStep}
-use Rattle.world.specs.declared.events.OwnStep.TheVariants as own
-use Rattle.world.specs.Parts.{Upper, by_writer, by_member, by_reader, by_primary, Break}
-use Rattle.world.specs.Worlds.{World, Change, apply, start}
-use Rattle.world.specs.Connections.{Next, message, the_end, next_down, next_up, down_taken, up_taken, is_alive, is_served}
-use Rattle.world.specs.Nodes.{node_of, lower_down, lower_ready}
-use Rattle.world.specs.Clients.{writer_up, reader_up}
-use Rattle.world.specs.Primaries.{primary_up, office_event}
-use Rattle.world.specs.Restarts.{may_find, whole_found, found_in, replica_found, restarted, restart}
-use Rattle.world.specs.Events.{changed, own_change, down_as, down_event, ready_event, unless_fails, upper_up, up_as, up_event, fault_event, lost, stop, where_so, outcome, after_event, happens, run}
-use Rattle.world.specs.Safe.{Has}
-use Rattle.world_laws.proofs.FactTables.{if-each, and-right, and-left, some-weaker}
-use Rattle.world_laws.specs.Stamping.{Givens, none_given, given_with, stamped_in, given_by, given_in}
-use Rattle.world_laws.proofs.AllRecorded.{happens-recorded, Reached, reached-next, reached-agreed, start-recorded}
-use Rattle.world_laws.proofs.ByteLeaves.{Facts}
-use Rattle.world_laws.proofs.AllCarried.{down-taken-facts, up-taken-facts, happens-carried, reached-facts, at-start, start-carried}
-use Rattle.world_laws.specs.Joining.{joined_as, SetUps}
-use Rattle.world_laws.proofs.AllSetUp.{happens-set, start-set}
+use Rattle.world_recoveries.specs.World.Delivery.{Delivery}
+use Rattle.world_recoveries.specs.World.Delivery.TheVariants as delivery
+use Rattle.world_recoveries.specs.World.Direction.{Direction}
+use Rattle.world_recoveries.specs.World.Direction.TheVariants as direction
+use Rattle.world_recoveries.specs.World.Event.{Event}
+use Rattle.world_recoveries.specs.World.Event.TheVariants as event
+use Rattle.world_recoveries.specs.World.FoundReplica.{FoundReplica}
+use Rattle.world_recoveries.specs.World.OwnStep.{OwnStep}
+use Rattle.world_recoveries.specs.World.OwnStep.TheVariants as own
+use Rattle.world_recoveries.specs.World.Parts.{Upper, by_writer, by_member, by_reader, by_primary, Break}
+use Rattle.world_recoveries.specs.World.Worlds.{World, Change, apply, start}
+use Rattle.world_recoveries.specs.World.Connections.{Next, message, the_end, next_down, next_up, down_taken, up_taken, is_alive, is_served}
+use Rattle.world_recoveries.specs.World.Nodes.{node_of, lower_down, lower_ready}
+use Rattle.world_recoveries.specs.World.Clients.{writer_up, reader_up}
+use Rattle.world_recoveries.specs.World.Primaries.{primary_up, office_event}
+use Rattle.world_recoveries.specs.World.Restarts.{may_find, whole_found, found_in, replica_found, restarted, restart}
+use Rattle.world_recoveries.specs.World.Events.{changed, own_change, down_as, down_event, ready_event, unless_fails, upper_up, up_as, up_event, fault_event, lost, stop, where_so, outcome, after_event, happens, run}
+use Rattle.world_recoveries.specs.World.Safe.{Has}
+use Rattle.world_recoveries.proofs.WorldLaws.FactTables.{if-each, and-right, and-left, some-weaker}
+use Rattle.world_recoveries.specs.WorldLaws.Stamping.{Givens, none_given, given_with, stamped_in, given_by, given_in}
+use Rattle.world_recoveries.proofs.WorldLaws.AllRecorded.{happens-recorded, Reached, reached-next, reached-agreed, start-recorded}
+use Rattle.world_recoveries.proofs.WorldLaws.ByteLeaves.{Facts}
+use Rattle.world_recoveries.proofs.WorldLaws.AllCarried.{down-taken-facts, up-taken-facts, happens-carried, reached-facts, at-start, start-carried}
+use Rattle.world_recoveries.specs.WorldLaws.Joining.{joined_as, SetUps}
+use Rattle.world_recoveries.proofs.WorldLaws.AllSetUp.{happens-set, start-set}
 use Rattle.world_recoveries.proofs.AllRecovering.{Coming, down-taken-fits, up-taken-fits, outcome-coming, happens-fits, start-fits}
 use Rattle.world_acks.specs.Acking.{Shown, ToldBytes, Seat, UpdatesLeave, Ends, Pends, UpperTells, Acked, AllAcked}
 use Rattle.world_acks.specs.Closing.{FinalUnder, BrokeFinal, HasClosed, StandsClosed}
@@ -48,7 +48,7 @@ use Rattle.world_acks.proofs.Ends.{NextTells, lower-down-leaf, lower-ready-leaf,
 use Rattle.world_acks.proofs.Clients.{Leads, leaf-leads}
 use Rattle.world_acks.proofs.Offices.{own-writer-leads, writer-up-leads, own-reader-leads, reader-up-leads, own-recover-leads, own-primary-leads, primary-up-leads}
 use Rattle.world_acks.proofs.Granting.{OfficeLeads, fresh-given, office-event-leads}
-use Rattle.world_laws.proofs.ReplicaUntouching.{office-untouched}
+use Rattle.world_recoveries.proofs.WorldLaws.ReplicaUntouching.{office-untouched}
 
 -- nothing is known of the ends of packets
 pub no_ends : Ends

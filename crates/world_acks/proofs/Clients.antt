@@ -10,7 +10,7 @@ use Rattle.hd_base.specs.declared.numbers.Stamp.{Stamp}
 use Rattle.op_headers.specs.declared.ops.Op.{Op}
 use Rattle.op_headers.specs.declared.ops.Op.TheVariants as op
 use Rattle.packet_codec.specs.declared.packets.Packet.{Packet}
-use Rattle.packet_stream.specs.Streams.{begun}
+use Rattle.world_recoveries.specs.PacketStream.Streams.{begun}
 use Rattle.writer_core.specs.declared.actions.Action.{Action}
 use Rattle.writer_core.specs.declared.actions.Action.TheVariants as action
 use Rattle.writer_core.specs.declared.actions.ClientAnswer.{ClientAnswer}
@@ -24,16 +24,16 @@ use Rattle.writer_core.specs.declared.records.WriterRecord.{WriterRecord}
 use Rattle.writer_core.specs.Commands.{admitted}
 use Rattle.writer_core.specs.Transitions.{given, given_as, own_step, open_step, completed_step, dialled, dialled_in, dial_step_as}
 use Rattle.replica_model.specs.Rows.{FullReplica}
-use Rattle.world.specs.Parts.{Message, request, packet, Lower, Writing}
-use Rattle.world.specs.Worlds.{World, Dial, Change, put, latest_with, past_after, apply}
-use Rattle.world.specs.Connections.{sent_on}
-use Rattle.world.specs.Clients.{reached_answer, writer_change, did, dialled_change, dialling, rest_in}
-use Rattle.world_laws.proofs.FactTables.{if-each, and-left, and-right, some-weaker}
-use Rattle.world_laws.specs.Stamping.{Givens, heard}
-use Rattle.world_laws.specs.Carrying.{ConnSays, WriteSays, new_stamp, AsksFor, Asks}
-use Rattle.world_laws.proofs.ByteAsking.{first-dial, only-one}
-use Rattle.world_laws.proofs.ByteFrame.{Each, each-nil, each-one}
-use Rattle.world_laws.proofs.ByteLeaves.{Facts, one-session, sent-if}
+use Rattle.world_recoveries.specs.World.Parts.{Message, request, packet, Lower, Writing}
+use Rattle.world_recoveries.specs.World.Worlds.{World, Dial, Change, put, latest_with, past_after, apply}
+use Rattle.world_recoveries.specs.World.Connections.{sent_on}
+use Rattle.world_recoveries.specs.World.Clients.{reached_answer, writer_change, did, dialled_change, dialling, rest_in}
+use Rattle.world_recoveries.proofs.WorldLaws.FactTables.{if-each, and-left, and-right, some-weaker}
+use Rattle.world_recoveries.specs.WorldLaws.Stamping.{Givens, heard}
+use Rattle.world_recoveries.specs.WorldLaws.Carrying.{ConnSays, WriteSays, new_stamp, AsksFor, Asks}
+use Rattle.world_recoveries.proofs.WorldLaws.ByteAsking.{first-dial, only-one}
+use Rattle.world_recoveries.proofs.WorldLaws.ByteFrame.{Each, each-nil, each-one}
+use Rattle.world_recoveries.proofs.WorldLaws.ByteLeaves.{Facts, one-session, sent-if}
 use Rattle.world_recoveries.specs.Recovering.{Recovering}
 use Rattle.world_acks.specs.Acking.{PacketEnd, end_of, Ends, Numbered, PacketTells, UpTells, DownTells, UpperTells, LowerTells, IsPipe, Pends, reach_of, Numbers, Acked}
 use Rattle.world_acks.proofs.Seats.{Steps, steps-same, lower-on, pends-on, pipe-on, Lasting}
@@ -46,7 +46,7 @@ use Rattle.world_acks.proofs.Moves.{IsUnstamped, out-unstamped, follows-numbers,
 use Rattle.writer_core.specs.declared.phases.Setup.{Setup}
 use Rattle.writer_core.specs.Requests.{request_for}
 use Rattle.op_headers.specs.Values.{WriteFields}
-use Rattle.world_laws.proofs.ByteWriting.{Requested, requested}
+use Rattle.world_recoveries.proofs.WorldLaws.ByteWriting.{Requested, requested}
 
 -- CHANGES
 

@@ -6,17 +6,17 @@ use Rattle.replica_model.specs.declared.events.ReplicaEvent.{ReplicaEvent}
 use Rattle.replica_model.specs.declared.events.ReplicaEvent.TheVariants as replica_event
 use Rattle.replica_model.specs.Rows.{FullReplica, IsFull, event_at, row, broken}
 use Rattle.replica_model.specs.Plans.{plan, has_changing}
-use Rattle.world.specs.declared.events.Event.{Event}
-use Rattle.world.specs.Parts.{Break}
-use Rattle.world.specs.Worlds.{World, start}
-use Rattle.world.specs.Nodes.{first_break}
-use Rattle.world.specs.Events.{outcome, after_event, happens, run}
-use Rattle.world_laws.specs.Stamping.{Givens, none_given, given_by, given_in}
-use Rattle.world_laws.proofs.AllRecorded.{Reached, reached-agreed, all-recorded}
-use Rattle.world_laws.specs.Carrying.{Under, Holds, Both, BreakSays, Carried}
-use Rattle.world_laws.proofs.AllCarried.{happens-carried, reached-facts, all-carried}
-use Rattle.world_laws.specs.Joining.{AtLeast, IsPlain}
-use Rattle.world_laws.proofs.AllSetUp.{all-set}
+use Rattle.world_recoveries.specs.World.Event.{Event}
+use Rattle.world_recoveries.specs.World.Parts.{Break}
+use Rattle.world_recoveries.specs.World.Worlds.{World, start}
+use Rattle.world_recoveries.specs.World.Nodes.{first_break}
+use Rattle.world_recoveries.specs.World.Events.{outcome, after_event, happens, run}
+use Rattle.world_recoveries.specs.WorldLaws.Stamping.{Givens, none_given, given_by, given_in}
+use Rattle.world_recoveries.proofs.WorldLaws.AllRecorded.{Reached, reached-agreed, all-recorded}
+use Rattle.world_recoveries.specs.WorldLaws.Carrying.{Under, Holds, Both, BreakSays, Carried}
+use Rattle.world_recoveries.proofs.WorldLaws.AllCarried.{happens-carried, reached-facts, all-carried}
+use Rattle.world_recoveries.specs.WorldLaws.Joining.{AtLeast, IsPlain}
+use Rattle.world_recoveries.proofs.WorldLaws.AllSetUp.{all-set}
 use Rattle.world_acks.specs.Closing.{FinalUnder, BrokeFinal, IsClosed, IsPassed, Closing, stays, passed, reopened, StaysClosed, HasClosed, StandsClosed}
 use Rattle.world_acks.specs.Waiting.{IsQuiet}
 use Rattle.world_acks.proofs.ClosedRows.{IsAgain, again-or, row-final, changing-later, restart-final}

@@ -32,34 +32,34 @@ use Rattle.member_core.specs.declared.turns.Turn.{Turn}
 use Rattle.member_core.specs.Members.{down_turn, up_turn, hears}
 use Rattle.member_core.specs.Requests.{setup_with, rule_for, named_setup, named_rule, setup_event, request_event}
 use Rattle.member_core.specs.Steps.{replica_after, booked_request, request_at, oldest_at, ready_turn_at}
-use Rattle.read_core.specs.Servings.{ServingState, read_at, read_event, next_call, call_at, piece_at}
-use Rattle.read_core.specs.declared.serving.ServePhase.{ServePhase}
-use Rattle.read_core.specs.declared.serving.ServePhase.TheVariants as serve_phase
-use Rattle.recovery_core.specs.declared.members.RecoveryReply.{RecoveryReply}
-use Rattle.recovery_core.specs.Members.{no_recovery, step_event, recovery_event, served_as}
-use Rattle.world.specs.declared.events.Delivery.{Delivery}
-use Rattle.world.specs.declared.events.Delivery.TheVariants as delivery
-use Rattle.world.specs.declared.events.Direction.{Direction}
-use Rattle.world.specs.declared.events.Direction.TheVariants as direction
-use Rattle.world.specs.declared.events.Event.{Event}
-use Rattle.world.specs.declared.events.Event.TheVariants as event
-use Rattle.world.specs.declared.events.FoundReplica.{FoundReplica}
-use Rattle.world.specs.declared.events.OwnStep.{OwnStep}
-use Rattle.world.specs.declared.events.OwnStep.TheVariants as own
-use Rattle.world.specs.Parts.{Message, request, packet, ack, response, read_status, recovery_answer, Marks, Upper, by_writer, by_member, by_reader, by_primary, FullMember, Lower, idle, writes, serves, recovers, ended_below, Break}
-use Rattle.world.specs.Worlds.{Past, World, Change, no_past, put_at, apply}
-use Rattle.world.specs.Connections.{Next, message, the_end, ends_at, next_on, next_down, next_up, down_taken, up_taken, is_served, is_alive}
-use Rattle.world.specs.Nodes.{node_of, replica_at, block_of, first_break, closing, unless_failing, above_of, below_of, failing_turn, turn_change, pending_at, takes_next, member_down, member_up, ready_change, is_asked, setup_change, failing_write, write_request, breaking, read_change, failing_read, read_request, piece_as, serve_change, recovery_change, failing_recovery, recovery_request, first_message, next_recovery, lower_down, lower_ready, mirror_up}
-use Rattle.world.specs.Clients.{writer_up, reader_up}
-use Rattle.world.specs.Primaries.{office_event, primary_up}
-use Rattle.world.specs.Restarts.{found_in, restarted, restart}
-use Rattle.world.specs.Events.{changed, own_change, down_as, down_event, ready_event, unless_fails, upper_up, up_as, up_event, fault_event, lost, stop, where_so, outcome}
-use Rattle.world_laws.proofs.FactTables.{if-each, when-each, some-weaker, and-left, and-right}
-use Rattle.world_laws.proofs.ReplicaUntouching.{Untouched, own-writer-untouched, writer-up-untouched, own-reader-untouched, reader-up-untouched, own-recover-untouched, own-primary-untouched, primary-up-untouched, office-untouched}
-use Rattle.world_laws.specs.Stamping.{Givens, none_given}
-use Rattle.world_laws.specs.Carrying.{stamp_set, Carried}
-use Rattle.world_laws.proofs.ByteRows.{Allows}
-use Rattle.world_laws.proofs.ByteTurns.{Idles, up-idles, ready-idles}
+use Rattle.world_recoveries.specs.ReadCore.Servings.{ServingState, read_at, read_event, next_call, call_at, piece_at}
+use Rattle.world_recoveries.specs.ReadCore.ServePhase.{ServePhase}
+use Rattle.world_recoveries.specs.ReadCore.ServePhase.TheVariants as serve_phase
+use Rattle.world_recoveries.specs.RecoveryCore.RecoveryReply.{RecoveryReply}
+use Rattle.world_recoveries.specs.RecoveryCore.Members.{no_recovery, step_event, recovery_event, served_as}
+use Rattle.world_recoveries.specs.World.Delivery.{Delivery}
+use Rattle.world_recoveries.specs.World.Delivery.TheVariants as delivery
+use Rattle.world_recoveries.specs.World.Direction.{Direction}
+use Rattle.world_recoveries.specs.World.Direction.TheVariants as direction
+use Rattle.world_recoveries.specs.World.Event.{Event}
+use Rattle.world_recoveries.specs.World.Event.TheVariants as event
+use Rattle.world_recoveries.specs.World.FoundReplica.{FoundReplica}
+use Rattle.world_recoveries.specs.World.OwnStep.{OwnStep}
+use Rattle.world_recoveries.specs.World.OwnStep.TheVariants as own
+use Rattle.world_recoveries.specs.World.Parts.{Message, request, packet, ack, response, read_status, recovery_answer, Marks, Upper, by_writer, by_member, by_reader, by_primary, FullMember, Lower, idle, writes, serves, recovers, ended_below, Break}
+use Rattle.world_recoveries.specs.World.Worlds.{Past, World, Change, no_past, put_at, apply}
+use Rattle.world_recoveries.specs.World.Connections.{Next, message, the_end, ends_at, next_on, next_down, next_up, down_taken, up_taken, is_served, is_alive}
+use Rattle.world_recoveries.specs.World.Nodes.{node_of, replica_at, block_of, first_break, closing, unless_failing, above_of, below_of, failing_turn, turn_change, pending_at, takes_next, member_down, member_up, ready_change, is_asked, setup_change, failing_write, write_request, breaking, read_change, failing_read, read_request, piece_as, serve_change, recovery_change, failing_recovery, recovery_request, first_message, next_recovery, lower_down, lower_ready, mirror_up}
+use Rattle.world_recoveries.specs.World.Clients.{writer_up, reader_up}
+use Rattle.world_recoveries.specs.World.Primaries.{office_event, primary_up}
+use Rattle.world_recoveries.specs.World.Restarts.{found_in, restarted, restart}
+use Rattle.world_recoveries.specs.World.Events.{changed, own_change, down_as, down_event, ready_event, unless_fails, upper_up, up_as, up_event, fault_event, lost, stop, where_so, outcome}
+use Rattle.world_recoveries.proofs.WorldLaws.FactTables.{if-each, when-each, some-weaker, and-left, and-right}
+use Rattle.world_recoveries.proofs.WorldLaws.ReplicaUntouching.{Untouched, own-writer-untouched, writer-up-untouched, own-reader-untouched, reader-up-untouched, own-recover-untouched, own-primary-untouched, primary-up-untouched, office-untouched}
+use Rattle.world_recoveries.specs.WorldLaws.Stamping.{Givens, none_given}
+use Rattle.world_recoveries.specs.WorldLaws.Carrying.{stamp_set, Carried}
+use Rattle.world_recoveries.proofs.WorldLaws.ByteRows.{Allows}
+use Rattle.world_recoveries.proofs.WorldLaws.ByteTurns.{Idles, up-idles, ready-idles}
 use Rattle.world_acks.specs.Closing.{Reopens}
 use Rattle.world_acks.specs.Waiting.{Waits}
 use Rattle.world_acks.proofs.ClosedRows.{IsAgain, IsOther, other-again}

@@ -32,13 +32,13 @@ use Rattle.replica_model.specs.declared.events.ReplicaEvent.TheVariants as repli
 use Rattle.replica_model.specs.Rows.{FullReplica, IsFull, event_at, row}
 use Rattle.replica_model.specs.Plans.{plan, has_changing, outcome_calls, taken_calls, when, leaves_temporary, sync_calls, settle_calls, cut_calls, move_calls, folder_of}
 use Rattle.replica_model.specs.Found.{Found, found_as, found_whole, settled_state, MayFindWithin}
-use Rattle.world.specs.Parts.{Break}
-use Rattle.world.specs.Restarts.{replica_found, restarted}
-use Rattle.world_laws.proofs.FactTables.{if-each}
-use Rattle.world_laws.specs.Finding.{MayFindAt}
-use Rattle.world_laws.proofs.FoundLaws.{restarts-find}
-use Rattle.world_laws.proofs.ByteRows.{reopen-stamp, setup-stamp, update-held}
-use Rattle.world_laws.specs.Joining.{AtLeast, IsPlain}
+use Rattle.world_recoveries.specs.World.Parts.{Break}
+use Rattle.world_recoveries.specs.World.Restarts.{replica_found, restarted}
+use Rattle.world_recoveries.proofs.WorldLaws.FactTables.{if-each}
+use Rattle.world_recoveries.specs.WorldLaws.Finding.{MayFindAt}
+use Rattle.world_recoveries.proofs.WorldLaws.FoundLaws.{restarts-find}
+use Rattle.world_recoveries.proofs.WorldLaws.ByteRows.{reopen-stamp, setup-stamp, update-held}
+use Rattle.world_recoveries.specs.WorldLaws.Joining.{AtLeast, IsPlain}
 use Rattle.world_acks.specs.Closing.{FinalUnder, BrokeFinal}
 
 -- EVENTS

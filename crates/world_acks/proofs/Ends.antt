@@ -30,22 +30,22 @@ use Rattle.replica_model.specs.declared.events.ReplicaEvent.TheVariants as repli
 use Rattle.replica_model.specs.Rows.{FullReplica, IsFull, broken}
 use Rattle.request_refusals.specs.declared.refusals.RequestRefusal.{RequestRefusal}
 use Rattle.request_refusals.specs.Pools.{is_in_pool}
-use Rattle.read_core.specs.Servings.{ServingState, read_at, read_event, accepting, refusing, next_call, piece_at}
-use Rattle.recovery_core.specs.declared.members.RecoveryReply.{RecoveryReply}
-use Rattle.recovery_core.specs.Members.{Served, no_recovery, step_event, recovery_event, reply_to, answer_of, served_as, serve_faulted}
-use Rattle.world.specs.Parts.{Message, request, packet, ack, response, read_status, recovery_answer, FullMember, Lower, idle, writes, serves, recovers, ended_below, Break, Updated}
-use Rattle.world.specs.Worlds.{World, Change, apply}
-use Rattle.world.specs.Connections.{Next, message, the_end, is_alive}
-use Rattle.world.specs.Nodes.{node_of, replica_at, broke_at, closing, unless_failing, breaking, read_change, failing_read, read_request, piece_as, serve_change, updated_by, recovery_change, failing_recovery, recovery_request, first_message, next_recovery, lower_down, lower_ready, mirror_up}
-use Rattle.world.specs.Safe.{Has}
-use Rattle.world_laws.proofs.FactTables.{if-each, when-each}
-use Rattle.world_laws.specs.Stamping.{Givens}
-use Rattle.world_laws.specs.Carrying.{LowerSays, DownSays}
-use Rattle.world_laws.proofs.ByteFrame.{Each, each-nil, each-one}
-use Rattle.world_laws.proofs.ByteLeaves.{sent-each}
-use Rattle.world_laws.proofs.ByteRows.{update-held}
-use Rattle.world_laws.specs.Joining.{IsPlain}
-use Rattle.world_laws.proofs.SetupRising.{event-broken}
+use Rattle.world_recoveries.specs.ReadCore.Servings.{ServingState, read_at, read_event, accepting, refusing, next_call, piece_at}
+use Rattle.world_recoveries.specs.RecoveryCore.RecoveryReply.{RecoveryReply}
+use Rattle.world_recoveries.specs.RecoveryCore.Members.{Served, no_recovery, step_event, recovery_event, reply_to, answer_of, served_as, serve_faulted}
+use Rattle.world_recoveries.specs.World.Parts.{Message, request, packet, ack, response, read_status, recovery_answer, FullMember, Lower, idle, writes, serves, recovers, ended_below, Break, Updated}
+use Rattle.world_recoveries.specs.World.Worlds.{World, Change, apply}
+use Rattle.world_recoveries.specs.World.Connections.{Next, message, the_end, is_alive}
+use Rattle.world_recoveries.specs.World.Nodes.{node_of, replica_at, broke_at, closing, unless_failing, breaking, read_change, failing_read, read_request, piece_as, serve_change, updated_by, recovery_change, failing_recovery, recovery_request, first_message, next_recovery, lower_down, lower_ready, mirror_up}
+use Rattle.world_recoveries.specs.World.Safe.{Has}
+use Rattle.world_recoveries.proofs.WorldLaws.FactTables.{if-each, when-each}
+use Rattle.world_recoveries.specs.WorldLaws.Stamping.{Givens}
+use Rattle.world_recoveries.specs.WorldLaws.Carrying.{LowerSays, DownSays}
+use Rattle.world_recoveries.proofs.WorldLaws.ByteFrame.{Each, each-nil, each-one}
+use Rattle.world_recoveries.proofs.WorldLaws.ByteLeaves.{sent-each}
+use Rattle.world_recoveries.proofs.WorldLaws.ByteRows.{update-held}
+use Rattle.world_recoveries.specs.WorldLaws.Joining.{IsPlain}
+use Rattle.world_recoveries.proofs.WorldLaws.SetupRising.{event-broken}
 use Rattle.world_acks.specs.Acking.{Shown, AsksToRead, Ends, UpTells, DownTells, Mirrors, LowerTells, Pends}
 use Rattle.world_acks.proofs.Passing.{StampSteps, gets_update, stamps-keep}
 use Rattle.world_acks.proofs.Seats.{has-one, IsCut, Steps, steps-same, Lasting, reads-on}

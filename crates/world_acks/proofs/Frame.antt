@@ -4,16 +4,16 @@ use Rattle.std.specs.Prelude.{◌==◌, ◌&&◌, nat_le, if◌then◌else◌, o
 use Rattle.std.proofs.lemmas.Bool.Decides.{nat_tests}
 use Rattle.std.proofs.lemmas.Option.{none-some}
 use Rattle.replica_model.specs.Rows.{FullReplica, IsFull}
-use Rattle.world.specs.Parts.{Message, Lower}
-use Rattle.world.specs.Worlds.{World, Dial, Change, put, put_at, listed, dial_at, latest_with, past_after, apply}
-use Rattle.world.specs.Safe.{Has}
-use Rattle.world_laws.specs.Growing.{Begins}
-use Rattle.world_laws.proofs.Fronts.{front-length}
-use Rattle.world_laws.proofs.GrowthLaws.{apply-grows}
-use Rattle.world_laws.proofs.FactTables.{if-each, put-each, and-left, and-right}
-use Rattle.world_laws.specs.Stamping.{Givens, heard}
-use Rattle.world_laws.proofs.ByteFrame.{Each, each-nil, each-one, each-append}
-use Rattle.world_laws.specs.Joining.{joined_as}
+use Rattle.world_recoveries.specs.World.Parts.{Message, Lower}
+use Rattle.world_recoveries.specs.World.Worlds.{World, Dial, Change, put, put_at, listed, dial_at, latest_with, past_after, apply}
+use Rattle.world_recoveries.specs.World.Safe.{Has}
+use Rattle.world_recoveries.specs.WorldLaws.Growing.{Begins}
+use Rattle.world_recoveries.proofs.WorldLaws.Fronts.{front-length}
+use Rattle.world_recoveries.proofs.WorldLaws.GrowthLaws.{apply-grows}
+use Rattle.world_recoveries.proofs.WorldLaws.FactTables.{if-each, put-each, and-left, and-right}
+use Rattle.world_recoveries.specs.WorldLaws.Stamping.{Givens, heard}
+use Rattle.world_recoveries.proofs.WorldLaws.ByteFrame.{Each, each-nil, each-one, each-append}
+use Rattle.world_recoveries.specs.WorldLaws.Joining.{joined_as}
 use Rattle.world_recoveries.specs.Recovering.{Recovering}
 use Rattle.world_recoveries.specs.Telling.{TellsFrom}
 use Rattle.world_acks.specs.Acking.{PacketEnd, Ends, UpTells, DownTells, UpperTells, LowerTells, Pends, Numbers, JoinSeat, Acked}

@@ -14,10 +14,10 @@ use Rattle.name_core.specs.declared.faults.OfficeFault.TheVariants as fault
 use Rattle.name_core.specs.Offices.{OfficeState, office_case}
 use Rattle.name_core.specs.Steps.{Step, state_after, reply}
 use Rattle.name_core.proofs.CaseLemmas.{each_case}
-use Rattle.recovery_core.specs.declared.primary.OwnStep.{OwnStep}
-use Rattle.recovery_core.specs.declared.primary.OwnStep.TheVariants as own
-use Rattle.recovery_core.specs.Primaries.{PrimaryState, is_among, sync_call}
-use Rattle.recovery_core.specs.Primaries as primary
+use Rattle.world_recoveries.specs.RecoveryCore.OwnStep.{OwnStep}
+use Rattle.world_recoveries.specs.RecoveryCore.OwnStep.TheVariants as own
+use Rattle.world_recoveries.specs.RecoveryCore.Primaries.{PrimaryState, is_among, sync_call}
+use Rattle.world_recoveries.specs.RecoveryCore.Primaries as primary
 use Rattle.writer_core.specs.declared.actions.Action.{Action}
 use Rattle.writer_core.specs.declared.actions.Action.TheVariants as action
 use Rattle.writer_core.specs.declared.phases.Phase.TheVariants as phase
@@ -25,19 +25,19 @@ use Rattle.writer_core.specs.declared.phases.Setup.{Setup}
 use Rattle.writer_core.specs.declared.phases.Setup.TheVariants as setup
 use Rattle.writer_core.specs.declared.records.WriterRecord.{WriterRecord}
 use Rattle.writer_core.specs.Transitions.{own_step, granted, refused, asks, phase_committed}
-use Rattle.world.specs.declared.events.Caller.{Caller}
-use Rattle.world.specs.declared.events.Caller.TheVariants as caller
-use Rattle.world.specs.Parts.{Told, Writing, Leading, Primary, no_primary, was_told, leads, has_led, request}
-use Rattle.world.specs.Worlds.{World, Stamped, Change, put, latest_with, apply}
-use Rattle.world.specs.Connections.{is_alive}
-use Rattle.world.specs.Primaries.{stamped_by, asks_writer, asks_primary, writer_asks, primary_commits, primary_asks, office_event}
-use Rattle.world_laws.proofs.FactTables.{if-each, put-each, when-each}
-use Rattle.world_laws.proofs.OfficeSteps.{AsksAs, Asking, own-step-asking}
-use Rattle.world_laws.proofs.Sessions.{refused-stamp}
-use Rattle.world_laws.specs.Stamping.{Givens, given_with, known_heard, heard}
-use Rattle.world_laws.proofs.StampGivens.{put-here}
-use Rattle.world_laws.proofs.StampGranting.{granted-create, granted-append, granted-again, granted-commit, granted-complete}
-use Rattle.world_laws.proofs.StampWalking.{none-is}
+use Rattle.world_recoveries.specs.World.Caller.{Caller}
+use Rattle.world_recoveries.specs.World.Caller.TheVariants as caller
+use Rattle.world_recoveries.specs.World.Parts.{Told, Writing, Leading, Primary, no_primary, was_told, leads, has_led, request}
+use Rattle.world_recoveries.specs.World.Worlds.{World, Stamped, Change, put, latest_with, apply}
+use Rattle.world_recoveries.specs.World.Connections.{is_alive}
+use Rattle.world_recoveries.specs.World.Primaries.{stamped_by, asks_writer, asks_primary, writer_asks, primary_commits, primary_asks, office_event}
+use Rattle.world_recoveries.proofs.WorldLaws.FactTables.{if-each, put-each, when-each}
+use Rattle.world_recoveries.proofs.WorldLaws.OfficeSteps.{AsksAs, Asking, own-step-asking}
+use Rattle.world_recoveries.proofs.WorldLaws.Sessions.{refused-stamp}
+use Rattle.world_recoveries.specs.WorldLaws.Stamping.{Givens, given_with, known_heard, heard}
+use Rattle.world_recoveries.proofs.WorldLaws.StampGivens.{put-here}
+use Rattle.world_recoveries.proofs.WorldLaws.StampGranting.{granted-create, granted-append, granted-again, granted-commit, granted-complete}
+use Rattle.world_recoveries.proofs.WorldLaws.StampWalking.{none-is}
 use Rattle.world_acks.specs.Acking.{Ends, reach_in, reach_wanted, reach_of, Numbers, PacketEnd}
 use Rattle.world_acks.proofs.Seats.{steps-same}
 use Rattle.world_acks.proofs.Turning.{Known}
@@ -45,10 +45,10 @@ use Rattle.world_acks.proofs.Moves.{Continues, Follows, IsUnstamped, to-unstampe
 use Rattle.world_acks.specs.Waiting.{Unasked}
 use Rattle.world_acks.proofs.Requests.{to-unasked, follows-unasked, out-unasked, client-requests}
 use Rattle.world_acks.proofs.Clients.{Leads, IsClient, client-news, none-dials, none-downs}
-use Rattle.world_laws.proofs.OfficeSteps.{IsAgain, IsLater, IsPrimarys}
+use Rattle.world_recoveries.proofs.WorldLaws.OfficeSteps.{IsAgain, IsLater, IsPrimarys}
 use Rattle.writer_core.specs.declared.phases.Phase.{Phase}
 use Rattle.hd_base.specs.declared.numbers.Stamp.{Stamp}
-use Rattle.world_laws.specs.Carrying.{new_stamp, WriteSays}
+use Rattle.world_recoveries.specs.WorldLaws.Carrying.{new_stamp, WriteSays}
 use Rattle.op_headers.specs.declared.ops.Op.TheVariants as op
 
 -- WHAT A WRITER MAKES OF A REFUSAL

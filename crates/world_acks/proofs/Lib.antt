@@ -16,3 +16,4 @@ pub mod Clients
 pub mod Offices
 pub mod Granting
 pub mod AllAcked
+pub mod WorldRecoveries

@@ -31,18 +31,18 @@ use Rattle.member_core.specs.declared.turns.Side.TheVariants as side
 use Rattle.member_core.specs.declared.turns.Turn.{Turn}
 use Rattle.member_core.specs.Members.{MemberState, down_turn, up_turn, hears, settled, closed, closed_by, bad_sum}
 use Rattle.member_core.specs.Steps.{Step, step, faulted_step, replica_after, outcome_of, oldest_at, ready_turn_at}
-use Rattle.world.specs.Parts.{Message, request, packet, ack, response, read_status, recovery_answer, FullMember, idle, writes, Writing, Break}
-use Rattle.world.specs.Worlds.{no_past, World, Change, Stamped, put, latest_with, apply}
-use Rattle.world.specs.Connections.{Next, message, the_end}
-use Rattle.world.specs.Nodes.{node_of, replica_at, block_of, above_of, below_of, upward_message, sent_up, passed, member_change, failing_turn, turn_change, pending_at, takes_next, member_down, member_up, ready_change, member_ready, broke_at}
-use Rattle.world_laws.proofs.FactTables.{when-each, put-each, some-weaker}
-use Rattle.world_laws.specs.Stamping.{Givens, none_given, heard}
-use Rattle.world_laws.specs.Carrying.{new_stamp, Sets, LowerSays, WriteSays}
-use Rattle.world_laws.proofs.ByteFrame.{Each, each-nil, each-one}
-use Rattle.world_laws.proofs.ByteLeaves.{Facts, one-session, sent-each, sent-if}
-use Rattle.world_laws.proofs.ByteRows.{Allows}
-use Rattle.world_laws.proofs.ByteTurns.{Idles, up-idles, ready-idles, follows}
-use Rattle.world_laws.proofs.SetupRising.{IsNoSetup, event-goes, lasting-of, event-broken}
+use Rattle.world_recoveries.specs.World.Parts.{Message, request, packet, ack, response, read_status, recovery_answer, FullMember, idle, writes, Writing, Break}
+use Rattle.world_recoveries.specs.World.Worlds.{no_past, World, Change, Stamped, put, latest_with, apply}
+use Rattle.world_recoveries.specs.World.Connections.{Next, message, the_end}
+use Rattle.world_recoveries.specs.World.Nodes.{node_of, replica_at, block_of, above_of, below_of, upward_message, sent_up, passed, member_change, failing_turn, turn_change, pending_at, takes_next, member_down, member_up, ready_change, member_ready, broke_at}
+use Rattle.world_recoveries.proofs.WorldLaws.FactTables.{when-each, put-each, some-weaker}
+use Rattle.world_recoveries.specs.WorldLaws.Stamping.{Givens, none_given, heard}
+use Rattle.world_recoveries.specs.WorldLaws.Carrying.{new_stamp, Sets, LowerSays, WriteSays}
+use Rattle.world_recoveries.proofs.WorldLaws.ByteFrame.{Each, each-nil, each-one}
+use Rattle.world_recoveries.proofs.WorldLaws.ByteLeaves.{Facts, one-session, sent-each, sent-if}
+use Rattle.world_recoveries.proofs.WorldLaws.ByteRows.{Allows}
+use Rattle.world_recoveries.proofs.WorldLaws.ByteTurns.{Idles, up-idles, ready-idles, follows}
+use Rattle.world_recoveries.proofs.WorldLaws.SetupRising.{IsNoSetup, event-goes, lasting-of, event-broken}
 use Rattle.world_recoveries.specs.Recovering.{Recovering}
 use Rattle.world_acks.specs.Acking.{PacketEnd, Ends, UpTells, PacketTells, DownTells, IsPipe, MemberTells, PendingTells, Pends, Numbers, Acked}
 use Rattle.world_acks.proofs.Shows.{IsNoUpdate}

@@ -7,7 +7,7 @@ use Rattle.hd_base.specs.declared.numbers.Stamp.{Stamp}
 use Rattle.ack_codec.specs.declared.acks.Ack.{Ack}
 use Rattle.ack_codec.specs.declared.responses.Response.{Response}
 use Rattle.packet_codec.specs.declared.packets.Packet.{Packet}
-use Rattle.packet_stream.specs.Streams.{StreamState, acked_packet, oldest_is_last, oldest_seqno}
+use Rattle.world_recoveries.specs.PacketStream.Streams.{StreamState, acked_packet, oldest_is_last, oldest_seqno}
 use Rattle.writer_core.specs.declared.actions.Action.{Action}
 use Rattle.writer_core.specs.declared.actions.Action.TheVariants as action
 use Rattle.writer_core.specs.declared.commands.Command.{Command}
@@ -31,9 +31,9 @@ use Rattle.writer_core.specs.declared.records.WriterRecord.{WriterRecord}
 use Rattle.writer_core.specs.Commands.{admitted}
 use Rattle.writer_core.specs.Phases.{remedy_after, remedy_accepted, remedy_in, remedy_at_ack, is_success, ack_verdict, bad_place, without}
 use Rattle.writer_core.specs.Transitions.{Step, taken_as, take_first, free_step_as, failed_command, failed_first, failed_step_as, dial_step_as, open_step, completed_step, accepted_step, due_now, form_step, reached_length, reach_step_as, due_step, stream_step_as, step_in, own_step, given_as, given, took, dropped, fail_for, fail_named, fail_at, ended_as, ended, phase_acked, acked_as, acked_in, acked, setup_answered_in, setup_answered, dialled_in, dialled}
-use Rattle.world.specs.Clients.{named_member, writer_hears}
-use Rattle.world.specs.Connections.{Next, message, the_end}
-use Rattle.world.specs.Parts.{request, packet, ack, response, read_status, recovery_answer}
+use Rattle.world_recoveries.specs.World.Clients.{named_member, writer_hears}
+use Rattle.world_recoveries.specs.World.Connections.{Next, message, the_end}
+use Rattle.world_recoveries.specs.World.Parts.{request, packet, ack, response, read_status, recovery_answer}
 use Rattle.world_acks.specs.Acking.{Ends, reach_in, reach_wanted, reach_of, Numbers}
 
 -- NOTHING IS FORMED

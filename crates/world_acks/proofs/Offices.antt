@@ -8,16 +8,16 @@ use Rattle.hd_base.specs.declared.numbers.NodeId.{NodeId}
 use Rattle.hd_base.specs.SumRules.{Rule}
 use Rattle.op_headers.specs.declared.ops.Op.TheVariants as op
 use Rattle.op_headers.specs.declared.ops.ReadOp.{ReadOp}
-use Rattle.packet_stream.specs.Streams.{begun}
+use Rattle.world_recoveries.specs.PacketStream.Streams.{begun}
 use Rattle.name_core.specs.declared.calls.OfficeAnswer.TheVariants as office
-use Rattle.read_core.specs.declared.reading.ReadTurn.{ReadTurn}
-use Rattle.read_core.specs.declared.reading.ReadTurn.TheVariants as turn
-use Rattle.read_core.specs.Readings.{ReadTaken, take_from}
-use Rattle.recovery_core.specs.declared.primary.OwnStep.{OwnStep}
-use Rattle.recovery_core.specs.declared.primary.OwnStep.TheVariants as own
-use Rattle.recovery_core.specs.declared.standings.Standing.{Standing}
-use Rattle.recovery_core.specs.Primaries.{PrimaryState, is_among, sync_call}
-use Rattle.recovery_core.specs.Primaries as primary
+use Rattle.world_recoveries.specs.ReadCore.ReadTurn.{ReadTurn}
+use Rattle.world_recoveries.specs.ReadCore.ReadTurn.TheVariants as turn
+use Rattle.world_recoveries.specs.ReadCore.Readings.{ReadTaken, take_from}
+use Rattle.world_recoveries.specs.RecoveryCore.OwnStep.{OwnStep}
+use Rattle.world_recoveries.specs.RecoveryCore.OwnStep.TheVariants as own
+use Rattle.world_recoveries.specs.RecoveryCore.Standing.{Standing}
+use Rattle.world_recoveries.specs.RecoveryCore.Primaries.{PrimaryState, is_among, sync_call}
+use Rattle.world_recoveries.specs.RecoveryCore.Primaries as primary
 use Rattle.writer_core.specs.declared.commands.Command.{Command}
 use Rattle.writer_core.specs.declared.commands.Command.TheVariants as command
 use Rattle.writer_core.specs.declared.commands.CommandFault.{CommandFault}
@@ -25,18 +25,18 @@ use Rattle.writer_core.specs.declared.intake.Intake.{Intake}
 use Rattle.writer_core.specs.declared.records.WriterRecord.{WriterRecord}
 use Rattle.writer_core.specs.Commands.{admitted}
 use Rattle.writer_core.specs.Transitions.{given, given_as, own_step, granted}
-use Rattle.world.specs.declared.events.TakenCommand.{TakenCommand}
-use Rattle.world.specs.Parts.{Message, request, Place, Upper, by_primary, Told, Reader, no_reader, reads, has_read, Leading, Primary, no_primary, was_told, leads, has_led}
-use Rattle.world.specs.Worlds.{World, Dial, Change, past_after, apply}
-use Rattle.world.specs.Connections.{Next, is_conn, is_alive, place_of}
-use Rattle.world.specs.Clients.{did, is_empty, is_formed, ruled, command_bytes, takes_command, writer_step, own_writer, writer_hears, writer_up, reader_dials, own_reader_as, own_reader, from_node_of, reader_turn, reader_up_as, reader_up, are_members}
-use Rattle.world.specs.Primaries.{updates_change, primary_dials, begins_with, begins_as, begins_at, own_recover, dials_answered, updates_on, leads_step, commits_step, leads_told, own_primary_as, own_primary, hears_change, listens, primary_up_as, primary_up}
-use Rattle.world_laws.proofs.FactTables.{if-each, when-each, and-right}
-use Rattle.world_laws.specs.Stamping.{Givens, known_heard}
-use Rattle.world_laws.proofs.StampWalking.{none-is}
-use Rattle.world_laws.proofs.ByteAsking.{only-one}
-use Rattle.world_laws.proofs.ByteFrame.{Each, each-nil, each-one}
-use Rattle.world_laws.proofs.ByteLeaves.{sent-if}
+use Rattle.world_recoveries.specs.World.TakenCommand.{TakenCommand}
+use Rattle.world_recoveries.specs.World.Parts.{Message, request, Place, Upper, by_primary, Told, Reader, no_reader, reads, has_read, Leading, Primary, no_primary, was_told, leads, has_led}
+use Rattle.world_recoveries.specs.World.Worlds.{World, Dial, Change, past_after, apply}
+use Rattle.world_recoveries.specs.World.Connections.{Next, is_conn, is_alive, place_of}
+use Rattle.world_recoveries.specs.World.Clients.{did, is_empty, is_formed, ruled, command_bytes, takes_command, writer_step, own_writer, writer_hears, writer_up, reader_dials, own_reader_as, own_reader, from_node_of, reader_turn, reader_up_as, reader_up, are_members}
+use Rattle.world_recoveries.specs.World.Primaries.{updates_change, primary_dials, begins_with, begins_as, begins_at, own_recover, dials_answered, updates_on, leads_step, commits_step, leads_told, own_primary_as, own_primary, hears_change, listens, primary_up_as, primary_up}
+use Rattle.world_recoveries.proofs.WorldLaws.FactTables.{if-each, when-each, and-right}
+use Rattle.world_recoveries.specs.WorldLaws.Stamping.{Givens, known_heard}
+use Rattle.world_recoveries.proofs.WorldLaws.StampWalking.{none-is}
+use Rattle.world_recoveries.proofs.WorldLaws.ByteAsking.{only-one}
+use Rattle.world_recoveries.proofs.WorldLaws.ByteFrame.{Each, each-nil, each-one}
+use Rattle.world_recoveries.proofs.WorldLaws.ByteLeaves.{sent-if}
 use Rattle.world_acks.specs.Acking.{Ends, DownTells, UpperTells, Numbers}
 use Rattle.world_acks.specs.Waiting.{Unasked}
 use Rattle.world_acks.proofs.Requests.{Requesting, follows-unasked, still-requests, other-requests}

@@ -30,17 +30,17 @@ use Rattle.replica_core.proofs.InfoLemmas.{present_is, reopen_is, recover_setup_
 use Rattle.replica_core.proofs.StepLemmas.{after_check, after_step, choice}
 use Rattle.replica_model.specs.declared.events.ReplicaEvent.{ReplicaEvent}
 use Rattle.replica_model.specs.Rows.{FullReplica, row, event_at}
-use Rattle.world.specs.Parts.{request, Place, Dialled, Updated}
-use Rattle.world.specs.Worlds.{Past, World, Change, past_after, apply}
-use Rattle.world.specs.Nodes.{block_of}
-use Rattle.world.specs.Safe.{Has}
-use Rattle.world_laws.specs.Stamping.{Givens}
-use Rattle.world_laws.specs.Carrying.{new_stamp, stamp_set}
+use Rattle.world_recoveries.specs.World.Parts.{request, Place, Dialled, Updated}
+use Rattle.world_recoveries.specs.World.Worlds.{Past, World, Change, past_after, apply}
+use Rattle.world_recoveries.specs.World.Nodes.{block_of}
+use Rattle.world_recoveries.specs.World.Safe.{Has}
+use Rattle.world_recoveries.specs.WorldLaws.Stamping.{Givens}
+use Rattle.world_recoveries.specs.WorldLaws.Carrying.{new_stamp, stamp_set}
 use Rattle.member_core.specs.Requests.{setup_with}
-use Rattle.world_laws.proofs.ByteRows.{reopen-stamp, setup-stamp, stream-stamp}
-use Rattle.world_laws.proofs.FactTables.{and-left, and-right}
-use Rattle.world_laws.proofs.GrowthLaws.{apply-grows}
-use Rattle.world_laws.proofs.SetupRising.{IsNoSetup}
+use Rattle.world_recoveries.proofs.WorldLaws.ByteRows.{reopen-stamp, setup-stamp, stream-stamp}
+use Rattle.world_recoveries.proofs.WorldLaws.FactTables.{and-left, and-right}
+use Rattle.world_recoveries.proofs.WorldLaws.GrowthLaws.{apply-grows}
+use Rattle.world_recoveries.proofs.WorldLaws.SetupRising.{IsNoSetup}
 use Rattle.world_recoveries.specs.Recovering.{ReplicaTold, top_under, top_of, Informs, StillTrue, UpdateFits, WasSent, Recovering}
 use Rattle.world_recoveries.specs.Telling.{TellsNow, TellsFrom}
 use Rattle.world_recoveries.proofs.Histories.{begins-get}

@@ -13,13 +13,13 @@ use Rattle.writer_core.specs.declared.phases.Phase.{Phase}
 use Rattle.writer_core.specs.declared.phases.Phase.TheVariants as phase
 use Rattle.writer_core.specs.declared.phases.Setup.{Setup}
 use Rattle.writer_core.specs.declared.records.WriterRecord.{WriterRecord}
-use Rattle.world.specs.Parts.{Message, request, Lower, idle, Writing}
-use Rattle.world.specs.Worlds.{Past, World, Dial, Change, listed, dial_at, past_after, apply}
-use Rattle.world_laws.proofs.GrowthLaws.{apply-grows}
-use Rattle.world_laws.proofs.FactTables.{if-each}
-use Rattle.world_laws.specs.Stamping.{Givens, heard}
-use Rattle.world_laws.specs.Carrying.{new_stamp, Sets, AsksFor, Asks}
-use Rattle.world_laws.proofs.ByteLeaves.{Facts}
+use Rattle.world_recoveries.specs.World.Parts.{Message, request, Lower, idle, Writing}
+use Rattle.world_recoveries.specs.World.Worlds.{Past, World, Dial, Change, listed, dial_at, past_after, apply}
+use Rattle.world_recoveries.proofs.WorldLaws.GrowthLaws.{apply-grows}
+use Rattle.world_recoveries.proofs.WorldLaws.FactTables.{if-each}
+use Rattle.world_recoveries.specs.WorldLaws.Stamping.{Givens, heard}
+use Rattle.world_recoveries.specs.WorldLaws.Carrying.{new_stamp, Sets, AsksFor, Asks}
+use Rattle.world_recoveries.proofs.WorldLaws.ByteLeaves.{Facts}
 use Rattle.world_acks.specs.Waiting.{Waits, HasFirst, Unasked, Requests, IsQuiet}
 use Rattle.world_acks.proofs.Moves.{Follows, IsUnstamped, none-stamped}
 use Rattle.world_acks.proofs.Frame.{begins-first, dial-place, dial-none}

@@ -19,17 +19,17 @@ use Rattle.replica_model.specs.declared.events.ReplicaEvent.{ReplicaEvent}
 use Rattle.replica_model.specs.Rows.{FullReplica, IsFull, row, event_at}
 use Rattle.replica_model.specs.Found.{IsFront}
 use Rattle.member_core.specs.Requests.{request_from}
-use Rattle.world.specs.Parts.{Message, request, packet, ack, response, read_status, recovery_answer, Place, Dialled, Upper, by_writer, by_member, by_reader, by_primary, FullMember, Lower, idle, writes, serves, recovers, ended_below, Joined, Updated}
-use Rattle.world.specs.Worlds.{World, Change, past_after, apply}
-use Rattle.world.specs.Nodes.{node_of, block_of}
-use Rattle.world.specs.Safe.{Has}
-use Rattle.world_laws.proofs.FactTables.{and-left, and-right, some-weaker}
-use Rattle.world_laws.proofs.GrowthLaws.{apply-grows}
-use Rattle.world_laws.specs.Stamping.{Givens}
-use Rattle.world_laws.specs.Carrying.{new_stamp}
-use Rattle.world_laws.proofs.Fronts.{front-takes, front-length}
-use Rattle.world_laws.specs.Joining.{joined_as}
-use Rattle.world_laws.proofs.SetupRising.{Goes}
+use Rattle.world_recoveries.specs.World.Parts.{Message, request, packet, ack, response, read_status, recovery_answer, Place, Dialled, Upper, by_writer, by_member, by_reader, by_primary, FullMember, Lower, idle, writes, serves, recovers, ended_below, Joined, Updated}
+use Rattle.world_recoveries.specs.World.Worlds.{World, Change, past_after, apply}
+use Rattle.world_recoveries.specs.World.Nodes.{node_of, block_of}
+use Rattle.world_recoveries.specs.World.Safe.{Has}
+use Rattle.world_recoveries.proofs.WorldLaws.FactTables.{and-left, and-right, some-weaker}
+use Rattle.world_recoveries.proofs.WorldLaws.GrowthLaws.{apply-grows}
+use Rattle.world_recoveries.specs.WorldLaws.Stamping.{Givens}
+use Rattle.world_recoveries.specs.WorldLaws.Carrying.{new_stamp}
+use Rattle.world_recoveries.proofs.WorldLaws.Fronts.{front-takes, front-length}
+use Rattle.world_recoveries.specs.WorldLaws.Joining.{joined_as}
+use Rattle.world_recoveries.proofs.WorldLaws.SetupRising.{Goes}
 use Rattle.world_recoveries.specs.Recovering.{ReplicaTold, Informs, top_under, top_of, Recovering}
 use Rattle.world_recoveries.specs.Telling.{IsOf, TellsNow, TellsFrom}
 use Rattle.world_recoveries.proofs.Telling.{told-below, updated-below}

@@ -13,7 +13,7 @@ use Rattle.hd_base.specs.declared.states.ReplicaState.TheVariants as state
 use Rattle.op_headers.specs.declared.nodes.NodeRef.{NodeRef}
 use Rattle.op_headers.specs.declared.ops.Op.TheVariants as op
 use Rattle.op_headers.specs.Values.{WriteFields}
-use Rattle.node_refs.specs.NodeRefs.{ref_of}
+use Rattle.world_recoveries.specs.NodeRefs.NodeRefs.{ref_of}
 use Rattle.replica_core.specs.declared.events.Answer.TheVariants as core_answer
 use Rattle.replica_core.specs.declared.events.Event.{Event}
 use Rattle.replica_core.specs.declared.events.Event.TheVariants as event
@@ -42,18 +42,18 @@ use Rattle.member_core.specs.declared.requests.TheConstants.{MAX_BELOW, MAX_PORT
 use Rattle.member_core.specs.Members.{MemberState, set_up, set_up_at}
 use Rattle.member_core.specs.Requests.{setup_with, rule_for, named_setup, named_rule, setup_event, request_event, request_from, request_to, mirror_request, response_of}
 use Rattle.member_core.specs.Steps.{Setup, request_at, refused_request, booked_request, refused_by, faulted_request}
-use Rattle.world.specs.Parts.{Message, request, response, Dialled, by_member, idle, ended_below, Break, Joined}
-use Rattle.world.specs.Worlds.{World, Dial, Change, dial_at, past_after, apply}
-use Rattle.world.specs.Nodes.{node_of, node_on, replica_at, block_of, broke_at, joined_at, sent_up, mirror_node, is_asked, mirror_dial, dials_of, setup_change, failing_write, write_request}
-use Rattle.world.specs.Safe.{Has}
-use Rattle.world_laws.proofs.FactTables.{if-each}
-use Rattle.world_laws.specs.Stamping.{Givens}
-use Rattle.world_laws.specs.Carrying.{stamp_set, new_stamp, WriteSays}
-use Rattle.world_laws.proofs.ByteAsking.{first-dial}
-use Rattle.world_laws.proofs.ByteFrame.{Each, each-nil, each-one}
-use Rattle.world_laws.proofs.ByteLeaves.{Facts, sent-each}
-use Rattle.world_laws.specs.Joining.{joined_as}
-use Rattle.world_laws.proofs.SetupRising.{event-goes, event-broken}
+use Rattle.world_recoveries.specs.World.Parts.{Message, request, response, Dialled, by_member, idle, ended_below, Break, Joined}
+use Rattle.world_recoveries.specs.World.Worlds.{World, Dial, Change, dial_at, past_after, apply}
+use Rattle.world_recoveries.specs.World.Nodes.{node_of, node_on, replica_at, block_of, broke_at, joined_at, sent_up, mirror_node, is_asked, mirror_dial, dials_of, setup_change, failing_write, write_request}
+use Rattle.world_recoveries.specs.World.Safe.{Has}
+use Rattle.world_recoveries.proofs.WorldLaws.FactTables.{if-each}
+use Rattle.world_recoveries.specs.WorldLaws.Stamping.{Givens}
+use Rattle.world_recoveries.specs.WorldLaws.Carrying.{stamp_set, new_stamp, WriteSays}
+use Rattle.world_recoveries.proofs.WorldLaws.ByteAsking.{first-dial}
+use Rattle.world_recoveries.proofs.WorldLaws.ByteFrame.{Each, each-nil, each-one}
+use Rattle.world_recoveries.proofs.WorldLaws.ByteLeaves.{Facts, sent-each}
+use Rattle.world_recoveries.specs.WorldLaws.Joining.{joined_as}
+use Rattle.world_recoveries.proofs.WorldLaws.SetupRising.{event-goes, event-broken}
 use Rattle.world_recoveries.specs.Recovering.{Recovering}
 use Rattle.world_acks.specs.Acking.{Shown, Seat, Asked, IsPipe, least_of, promised, JoinSeat, Ends, UpTells, DownTells, UpperTells, Pends}
 use Rattle.world_acks.proofs.Shows.{stream-open}

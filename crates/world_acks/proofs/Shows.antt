@@ -28,9 +28,9 @@ use Rattle.replica_core.proofs.StepLemmas.{after_check, after_step, choice}
 use Rattle.replica_core.specs.Views.{written_in, written_at}
 use Rattle.replica_model.specs.declared.events.ReplicaEvent.{ReplicaEvent}
 use Rattle.replica_model.specs.Rows.{FullReplica, IsFull, row, event_at, brought}
-use Rattle.world_laws.proofs.Fronts.{front-take, front-takes}
-use Rattle.world_laws.specs.Joining.{AtLeast, Rises}
-use Rattle.world_laws.proofs.SetupRising.{Goes}
+use Rattle.world_recoveries.proofs.WorldLaws.Fronts.{front-take, front-takes}
+use Rattle.world_recoveries.specs.WorldLaws.Joining.{AtLeast, Rises}
+use Rattle.world_recoveries.proofs.WorldLaws.SetupRising.{Goes}
 use Rattle.world_acks.specs.Acking.{Shown}
 
 -- RECORDS

@@ -45,18 +45,18 @@ use Rattle.member_core.specs.Acks.{is_success, failures, begins_with_bad_sum, is
 use Rattle.member_core.specs.Members.{down_turn, up_turn, up_at, setup_turn, answered_turn, accept_turn, fail_turn, stream_turn, ack_turn, pass_turn, failed_turn, good_turn, partial_turn, spoiled_turn, give_up_turn, named_bad, ready_turn, ready_at, quiet_turn, idle_turn, patient_turn, bad_turn}
 use Rattle.member_core.specs.Requests.{setup_with, response_of, request_from}
 use Rattle.member_core.specs.Steps.{booked_as, outcome_of, replica_after, oldest_at}
-use Rattle.world.specs.Connections.{Next, message, the_end}
-use Rattle.world.specs.Parts.{request, packet, ack, response, read_status, recovery_answer, FullMember, Break}
-use Rattle.world.specs.Worlds.{World}
-use Rattle.world.specs.Nodes.{below_of, node_of, node_on, replica_at, block_of, upward_message}
-use Rattle.world_laws.proofs.FactTables.{if-each, and-left}
-use Rattle.world_laws.specs.Stamping.{Givens}
-use Rattle.world_laws.specs.Carrying.{new_stamp, Sets, Holds, SetFor, ReplicaSays}
+use Rattle.world_recoveries.specs.World.Connections.{Next, message, the_end}
+use Rattle.world_recoveries.specs.World.Parts.{request, packet, ack, response, read_status, recovery_answer, FullMember, Break}
+use Rattle.world_recoveries.specs.World.Worlds.{World}
+use Rattle.world_recoveries.specs.World.Nodes.{below_of, node_of, node_on, replica_at, block_of, upward_message}
+use Rattle.world_recoveries.proofs.WorldLaws.FactTables.{if-each, and-left}
+use Rattle.world_recoveries.specs.WorldLaws.Stamping.{Givens}
+use Rattle.world_recoveries.specs.WorldLaws.Carrying.{new_stamp, Sets, Holds, SetFor, ReplicaSays}
 use Rattle.replica_model.specs.Found.{IsFront}
-use Rattle.world_laws.proofs.Fronts.{front-takes, front-length}
-use Rattle.world_laws.proofs.ByteLeaves.{Facts}
-use Rattle.world_laws.proofs.ByteRows.{sets-once}
-use Rattle.world_laws.specs.Joining.{joined_as, IsPlain, BreakReached, SetUps}
+use Rattle.world_recoveries.proofs.WorldLaws.Fronts.{front-takes, front-length}
+use Rattle.world_recoveries.proofs.WorldLaws.ByteLeaves.{Facts}
+use Rattle.world_recoveries.proofs.WorldLaws.ByteRows.{sets-once}
+use Rattle.world_recoveries.specs.WorldLaws.Joining.{joined_as, IsPlain, BreakReached, SetUps}
 use Rattle.world_recoveries.specs.Recovering.{Recovering}
 use Rattle.world_acks.specs.Acking.{PacketEnd, pending_end, Shown, Seat, Asked, AsksToRead, Seated, IsPipe, promised, SetUpFrom, Ends, AckedFrom, UpTells, Mirrors, MemberTells, PendingTells, Pends, Acked}
 use Rattle.world_acks.specs.Closing.{FinalUnder, BrokeFinal, IsClosed, StandsClosed, AllClosed}

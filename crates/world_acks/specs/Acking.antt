@@ -7,7 +7,7 @@ use Rattle.op_headers.specs.declared.ops.Op.TheVariants as op
 use Rattle.op_headers.specs.declared.ops.ReadOp.{ReadOp}
 use Rattle.op_headers.specs.Values.{WriteFields}
 use Rattle.packet_codec.specs.declared.packets.Packet.{Packet}
-use Rattle.packet_stream.specs.Streams.{packet_end}
+use Rattle.world_recoveries.specs.PacketStream.Streams.{packet_end}
 use Rattle.replica_core.specs.declared.ack_queue.PendingPacket.{PendingPacket}
 use Rattle.replica_core.specs.declared.info.ReplicaInfo.{ReplicaInfo}
 use Rattle.replica_core.specs.declared.records.ReplicaRecord.{ReplicaRecord}
@@ -23,15 +23,15 @@ use Rattle.writer_core.specs.declared.phases.Phase.TheVariants as phase
 use Rattle.writer_core.specs.declared.phases.Setup.{Setup}
 use Rattle.writer_core.specs.declared.phases.Setup.TheVariants as setup
 use Rattle.writer_core.specs.declared.records.WriterRecord.{WriterRecord}
-use Rattle.world.specs.declared.events.Event.{Event}
-use Rattle.world.specs.Parts.{Message, request, packet, ack, response, Upper, by_member, FullMember, Lower, writes, Updated}
-use Rattle.world.specs.Worlds.{Past, World, start}
-use Rattle.world.specs.Nodes.{node_of, node_on, block_of}
-use Rattle.world.specs.Events.{run}
-use Rattle.world.specs.Safe.{Has}
-use Rattle.world_laws.specs.Stamping.{Givens, none_given, given_in, heard}
-use Rattle.world_laws.specs.Carrying.{new_stamp}
-use Rattle.world_laws.specs.Joining.{joined_as}
+use Rattle.world_recoveries.specs.World.Event.{Event}
+use Rattle.world_recoveries.specs.World.Parts.{Message, request, packet, ack, response, Upper, by_member, FullMember, Lower, writes, Updated}
+use Rattle.world_recoveries.specs.World.Worlds.{Past, World, start}
+use Rattle.world_recoveries.specs.World.Nodes.{node_of, node_on, block_of}
+use Rattle.world_recoveries.specs.World.Events.{run}
+use Rattle.world_recoveries.specs.World.Safe.{Has}
+use Rattle.world_recoveries.specs.WorldLaws.Stamping.{Givens, none_given, given_in, heard}
+use Rattle.world_recoveries.specs.WorldLaws.Carrying.{new_stamp}
+use Rattle.world_recoveries.specs.WorldLaws.Joining.{joined_as}
 use Rattle.world_recoveries.specs.Recovering.{ReplicaTold, Informs}
 use Rattle.world_acks.specs.Passing.{PassesSince}
 use Rattle.world_acks.specs.Closing.{StandsClosed, AllClosed}

@@ -8,13 +8,13 @@ use Rattle.replica_core.specs.declared.info.ReplicaInfo.{ReplicaInfo}
 use Rattle.replica_model.specs.Plans.{plan, has_changing}
 use Rattle.member_core.specs.declared.requests.SetupKind.TheVariants as kind
 use Rattle.member_core.specs.Requests.{setup_with}
-use Rattle.world.specs.declared.events.Event.{Event}
-use Rattle.world.specs.Parts.{request, Lower, idle, Break}
-use Rattle.world.specs.Worlds.{Past, World, start}
-use Rattle.world.specs.Nodes.{node_on, block_of}
-use Rattle.world.specs.Events.{happens, run}
-use Rattle.world_laws.specs.Stamping.{Givens, none_given, given_by, given_in}
-use Rattle.world_laws.specs.Carrying.{new_stamp}
+use Rattle.world_recoveries.specs.World.Event.{Event}
+use Rattle.world_recoveries.specs.World.Parts.{request, Lower, idle, Break}
+use Rattle.world_recoveries.specs.World.Worlds.{Past, World, start}
+use Rattle.world_recoveries.specs.World.Nodes.{node_on, block_of}
+use Rattle.world_recoveries.specs.World.Events.{happens, run}
+use Rattle.world_recoveries.specs.WorldLaws.Stamping.{Givens, none_given, given_by, given_in}
+use Rattle.world_recoveries.specs.WorldLaws.Carrying.{new_stamp}
 use Rattle.world_acks.specs.Waiting.{IsQuiet}
 
 -- There is a replica, and it is FINALIZED under this stamp, also where a recovery holds it.

@@ -2,3 +2,4 @@ pub mod Passing
 pub mod Closing
 pub mod Waiting
 pub mod Acking
+pub mod WorldRecoveries

@@ -5,11 +5,11 @@ use Rattle.op_headers.specs.declared.ops.Op.TheVariants as op
 use Rattle.op_headers.specs.declared.ops.RecoveryOp.{RecoveryOp}
 use Rattle.op_headers.specs.Values.{WriteFields}
 use Rattle.replica_core.specs.declared.info.ReplicaInfo.{ReplicaInfo}
-use Rattle.world.specs.Parts.{request, Place, Updated}
-use Rattle.world.specs.Worlds.{Past, World}
-use Rattle.world.specs.Nodes.{block_of}
-use Rattle.world.specs.Safe.{Has}
-use Rattle.world_laws.specs.Carrying.{new_stamp}
+use Rattle.world_recoveries.specs.World.Parts.{request, Place, Updated}
+use Rattle.world_recoveries.specs.World.Worlds.{Past, World}
+use Rattle.world_recoveries.specs.World.Nodes.{block_of}
+use Rattle.world_recoveries.specs.World.Safe.{Has}
+use Rattle.world_recoveries.specs.WorldLaws.Carrying.{new_stamp}
 use Rattle.world_recoveries.specs.Recovering.{ReplicaTold, Informs}
 
 -- A setup of the block was asked that names an earlier stamp, and is of this one or a later; or a recovery with this id

@@ -6,12 +6,12 @@ use Rattle.member_core.specs.declared.requests.SetupKind.TheVariants as kind
 use Rattle.member_core.specs.Requests.{setup_with}
 use Rattle.writer_core.specs.declared.phases.Phase.{Phase}
 use Rattle.writer_core.specs.declared.phases.Phase.TheVariants as phase
-use Rattle.world.specs.Parts.{Message, request, idle}
-use Rattle.world.specs.declared.events.Event.{Event}
-use Rattle.world.specs.Worlds.{Past, World, start}
-use Rattle.world.specs.Events.{run}
-use Rattle.world_laws.specs.Stamping.{heard}
-use Rattle.world_laws.specs.Carrying.{new_stamp, Sets}
+use Rattle.world_recoveries.specs.World.Parts.{Message, request, idle}
+use Rattle.world_recoveries.specs.World.Event.{Event}
+use Rattle.world_recoveries.specs.World.Worlds.{Past, World, start}
+use Rattle.world_recoveries.specs.World.Events.{run}
+use Rattle.world_recoveries.specs.WorldLaws.Stamping.{heard}
+use Rattle.world_recoveries.specs.WorldLaws.Carrying.{new_stamp, Sets}
 
 -- a write request that its connection's lower end hasn't taken
 pub record Waits (w : World) (c : ℕ) (f : WriteFields) : Type 0 where

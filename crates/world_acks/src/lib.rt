@@ -25,3 +25,5 @@ pub fn closed_replicas_stay()
 pub fn one_request_waits()
     ensures { AllWaiting }
 {}
+
+pub use world_recoveries::recoveries_fit;

@@ -4,21 +4,21 @@ use Rattle.std.specs.Prelude.{◌==◌, ◌&&◌, not, nat_lt, if◌then◌else�
 use Rattle.std.proofs.lemmas.Option.{none-some}
 use Rattle.replica_model.specs.Rows.{FullReplica}
 use Rattle.replica_model.specs.Found.{Found, found_whole}
-use Rattle.world.specs.declared.events.Direction.{Direction}
-use Rattle.world.specs.declared.events.Direction.TheVariants as direction
-use Rattle.world.specs.declared.events.Event.{Event}
-use Rattle.world.specs.declared.events.Event.TheVariants as event
-use Rattle.world.specs.declared.events.FoundReplica.{FoundReplica}
-use Rattle.world.specs.declared.events.OwnStep.{OwnStep}
-use Rattle.world.specs.declared.events.OwnStep.TheVariants as own
-use Rattle.world.specs.Parts.{Upper, by_writer, by_member, by_reader, by_primary, Break}
-use Rattle.world.specs.Worlds.{World, Change, apply, start}
-use Rattle.world.specs.Connections.{Next, next_down, next_up, down_taken, up_taken, is_served}
-use Rattle.world.specs.Nodes.{lower_down, lower_ready}
-use Rattle.world.specs.Clients.{writer_up, reader_up}
-use Rattle.world.specs.Primaries.{primary_up, office_event}
-use Rattle.world.specs.Restarts.{is_whole_as, may_find, found_in, replica_found, restarted, restart}
-use Rattle.world.specs.Events.{changed, own_change, down_as, down_event, ready_event, upper_up, up_as, up_event, lost, stop, where_so, outcome, after_event, happens, run}
+use Rattle.world_laws.specs.World.Direction.{Direction}
+use Rattle.world_laws.specs.World.Direction.TheVariants as direction
+use Rattle.world_laws.specs.World.Event.{Event}
+use Rattle.world_laws.specs.World.Event.TheVariants as event
+use Rattle.world_laws.specs.World.FoundReplica.{FoundReplica}
+use Rattle.world_laws.specs.World.OwnStep.{OwnStep}
+use Rattle.world_laws.specs.World.OwnStep.TheVariants as own
+use Rattle.world_laws.specs.World.Parts.{Upper, by_writer, by_member, by_reader, by_primary, Break}
+use Rattle.world_laws.specs.World.Worlds.{World, Change, apply, start}
+use Rattle.world_laws.specs.World.Connections.{Next, next_down, next_up, down_taken, up_taken, is_served}
+use Rattle.world_laws.specs.World.Nodes.{lower_down, lower_ready}
+use Rattle.world_laws.specs.World.Clients.{writer_up, reader_up}
+use Rattle.world_laws.specs.World.Primaries.{primary_up, office_event}
+use Rattle.world_laws.specs.World.Restarts.{is_whole_as, may_find, found_in, replica_found, restarted, restart}
+use Rattle.world_laws.specs.World.Events.{changed, own_change, down_as, down_event, ready_event, upper_up, up_as, up_event, lost, stop, where_so, outcome, after_event, happens, run}
 use Rattle.world_laws.proofs.FactTables.{when-each, and-right}
 use Rattle.world_laws.proofs.ReplicaUntouching.{Untouched, own-writer-untouched, writer-up-untouched, own-reader-untouched, reader-up-untouched, own-recover-untouched, own-primary-untouched, primary-up-untouched, office-untouched}
 use Rattle.world_breaks.specs.Breaks.{IsUnbroken, AllUnbroken, NeverFails, NoneFails, UnbrokenWithoutFaults, WholeIsFound}

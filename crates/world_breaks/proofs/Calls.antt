@@ -32,8 +32,8 @@ use Rattle.member_core.specs.declared.turns.Turn.{Turn}
 use Rattle.member_core.specs.Acks.{is_success, failures, begins_with_bad_sum, is_read}
 use Rattle.member_core.specs.Members.{MemberState, down_turn, up_turn, up_at, setup_turn, answered_turn, accept_turn, fail_turn, stream_turn, ack_turn, pass_turn, failed_turn, good_turn, partial_turn, spoiled_turn, give_up_turn, named_bad, ready_turn, ready_at, quiet_turn, idle_turn, patient_turn}
 use Rattle.member_core.specs.Requests.{setup_with, rule_for, named_setup, named_rule, setup_event, request_event}
-use Rattle.recovery_core.specs.declared.members.RecoveryReply.{RecoveryReply}
-use Rattle.recovery_core.specs.Members.{step_event, recovery_event}
+use Rattle.world_laws.specs.RecoveryCore.RecoveryReply.{RecoveryReply}
+use Rattle.world_laws.specs.RecoveryCore.Members.{step_event, recovery_event}
 use Rattle.world_laws.proofs.FactTables.{if-each}
 
 -- an event that isn't a failed call on files

@@ -17,13 +17,13 @@ use Rattle.member_core.specs.declared.turns.Turn.{Turn}
 use Rattle.member_core.specs.Members.{down_turn, up_turn, hears}
 use Rattle.member_core.specs.Requests.{request_event}
 use Rattle.member_core.specs.Steps.{replica_after, request_at, booked_request, refused_by, oldest_at, ready_turn_at}
-use Rattle.read_core.specs.Servings.{ServingState, read_at, next_call, piece_at}
-use Rattle.recovery_core.specs.declared.members.RecoveryReply.{RecoveryReply}
-use Rattle.recovery_core.specs.Members.{recovery_event, served_as}
-use Rattle.world.specs.Parts.{Message, request, packet, ack, response, read_status, recovery_answer, FullMember, Lower, idle, writes, serves, recovers, ended_below, Break}
-use Rattle.world.specs.Worlds.{World, Change}
-use Rattle.world.specs.Connections.{Next, message, the_end, is_alive}
-use Rattle.world.specs.Nodes.{node_of, replica_at, block_of, above_of, below_of, turn_change, takes_next, pending_at, member_down, member_up, ready_change, member_ready, write_request, is_asked, read_change, piece_as, serve_change, recovery_request, first_message, next_recovery, lower_down, lower_ready, mirror_up}
+use Rattle.world_laws.specs.ReadCore.Servings.{ServingState, read_at, next_call, piece_at}
+use Rattle.world_laws.specs.RecoveryCore.RecoveryReply.{RecoveryReply}
+use Rattle.world_laws.specs.RecoveryCore.Members.{recovery_event, served_as}
+use Rattle.world_laws.specs.World.Parts.{Message, request, packet, ack, response, read_status, recovery_answer, FullMember, Lower, idle, writes, serves, recovers, ended_below, Break}
+use Rattle.world_laws.specs.World.Worlds.{World, Change}
+use Rattle.world_laws.specs.World.Connections.{Next, message, the_end, is_alive}
+use Rattle.world_laws.specs.World.Nodes.{node_of, replica_at, block_of, above_of, below_of, turn_change, takes_next, pending_at, member_down, member_up, ready_change, member_ready, write_request, is_asked, read_change, piece_as, serve_change, recovery_request, first_message, next_recovery, lower_down, lower_ready, mirror_up}
 use Rattle.world_laws.proofs.FactTables.{when-each}
 use Rattle.world_breaks.specs.Breaks.{IsUnbroken, AllUnbroken}
 use Rattle.world_breaks.proofs.Calls.{ProperCall, Calls, down-calls, up-calls, ready-calls, Requests, request-proper, recovery-proper}

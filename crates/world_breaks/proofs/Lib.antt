@@ -2,3 +2,4 @@ pub mod Calls
 pub mod Rows
 pub mod Leaving
 pub mod AllUnbroken
+pub mod WorldLaws

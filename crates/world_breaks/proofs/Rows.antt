@@ -27,7 +27,7 @@ use Rattle.replica_core.proofs.InfoLemmas.{present_is}
 use Rattle.replica_model.specs.declared.events.ReplicaEvent.{ReplicaEvent}
 use Rattle.replica_model.specs.declared.events.ReplicaEvent.TheVariants as replica_event
 use Rattle.replica_model.specs.Rows.{FullReplica, row, event_at, brought, nothing}
-use Rattle.world.specs.Parts.{Break}
+use Rattle.world_laws.specs.World.Parts.{Break}
 use Rattle.world_breaks.specs.Breaks.{IsUnbroken}
 use Rattle.world_breaks.proofs.Calls.{Proper, ProperCall}
 

@@ -2,12 +2,12 @@
 use Rattle.std.specs.Prelude.{ℕ, ◌≡◌, false, List, [], ◌∷◌, Option, None}
 use Rattle.replica_model.specs.Rows.{FullReplica, nothing}
 use Rattle.replica_model.specs.Found.{found_whole}
-use Rattle.world.specs.declared.events.Event.{Event}
-use Rattle.world.specs.declared.events.Event.TheVariants as event
-use Rattle.world.specs.Parts.{Break}
-use Rattle.world.specs.Worlds.{World, start}
-use Rattle.world.specs.Restarts.{replica_found, restarted}
-use Rattle.world.specs.Events.{run}
+use Rattle.world_laws.specs.World.Event.{Event}
+use Rattle.world_laws.specs.World.Event.TheVariants as event
+use Rattle.world_laws.specs.World.Parts.{Break}
+use Rattle.world_laws.specs.World.Worlds.{World, start}
+use Rattle.world_laws.specs.World.Restarts.{replica_found, restarted}
+use Rattle.world_laws.specs.World.Events.{run}
 
 -- REPLICAS
 

@@ -14,3 +14,5 @@ pub fn replicas_are_unbroken_without_faults()
 pub fn whole_replicas_are_found()
     ensures { WholeIsFound }
 {}
+
+pub use world_laws::the_past_only_grows;

@@ -25,7 +25,7 @@ use Rattle.world.specs.Events.{changed, own_change, down_as, down_event, ready_e
 use Rattle.world.specs.Safe.{Has, Final, written_under, ClosedAt, IsClose, Closed}
 use Rattle.world_laws.proofs.FactTables.{if-each, when-each, and-left, and-right}
 use Rattle.world_laws.specs.Stamping.{Givens, heard}
-use Rattle.world_finals.specs.Finishing.{Ids}
+use Rattle.world_writers.specs.WorldFinals.Finishing.{Ids}
 use Rattle.world_closings.specs.Answering.{AnswersClose, ClosesIn, Closes}
 use Rattle.world_closings.proofs.Completing.{Known, closed-member}
 use Rattle.node_refs.specs.NodeRefs.{port_of}

@@ -28,10 +28,10 @@ use Rattle.world_laws.proofs.ByteLeaves.{Facts}
 use Rattle.world_laws.proofs.AllCarried.{reached-facts, all-carried}
 use Rattle.world_laws.proofs.AllRecorded.{Reached, all-recorded}
 use Rattle.world_laws.proofs.AllSetUp.{all-set}
-use Rattle.world_finals.proofs.AllFinal.{all-final}
+use Rattle.world_writers.proofs.WorldFinals.AllFinal.{all-final}
 use Rattle.world_laws.specs.Joining.{IsPlain}
-use Rattle.world_finals.specs.Finishing.{Ids, no_ids, ids_in, EndsAt, FinalLength, of_recovery, of_session, WriteEnds, IsFinalOf, Finals}
-use Rattle.world_acks.specs.Closing.{IsClosed, IsPassed, HasClosed}
+use Rattle.world_writers.specs.WorldFinals.Finishing.{Ids, no_ids, ids_in, EndsAt, FinalLength, of_recovery, of_session, WriteEnds, IsFinalOf, Finals}
+use Rattle.world_writers.specs.WorldAcks.Closing.{IsClosed, IsPassed, HasClosed}
 use Rattle.world.specs.Nodes.{node_on}
 use Rattle.node_refs.specs.NodeRefs.{port_of}
 use Rattle.world_closings.specs.Answering.{MembersClosed, IsCompleted, AnswersClose}

@@ -61,12 +61,12 @@ use Rattle.world_laws.specs.Stamping.{Givens, known_heard, heard}
 use Rattle.world_laws.proofs.ByteAsking.{first-dial}
 use Rattle.world_laws.proofs.ByteLeaves.{Facts}
 use Rattle.world_laws.proofs.ByteWriting.{Requested, requested}
-use Rattle.world_acks.specs.Acking.{Ends}
-use Rattle.world_acks.proofs.ClosedMoves.{next-sent}
-use Rattle.world_acks.proofs.Frame.{begins-first}
-use Rattle.world_acks.proofs.Turning.{HeardTells, Known}
+use Rattle.world_writers.specs.WorldAcks.Acking.{Ends}
+use Rattle.world_writers.proofs.WorldAcks.ClosedMoves.{next-sent}
+use Rattle.world_writers.proofs.WorldAcks.Frame.{begins-first}
+use Rattle.world_writers.proofs.WorldAcks.Turning.{HeardTells, Known}
 use Rattle.world_writers.specs.Piping.{PipedOf}
-use Rattle.world_finals.specs.Finishing.{WriterEnds}
+use Rattle.world_writers.specs.WorldFinals.Finishing.{WriterEnds}
 use Rattle.world_closings.specs.Answering.{MembersClosed, IsCompleted, AsksToClose, ClosesIn, ClosesOf, Closes}
 use Rattle.world_closings.proofs.Nearing.{Passes, passes-then, kept-conn, own-step-passes, open-passes, completed-passes, given-passes, ruled-passes, unanswered-passes, refused-passes}
 use Rattle.world_closings.proofs.Hearing.{Later, sets-later, Hears, hears-closes}

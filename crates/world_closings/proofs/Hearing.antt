@@ -33,14 +33,14 @@ use Rattle.world.specs.Clients.{named_member, writer_hears}
 use Rattle.world_laws.specs.Growing.{Grows}
 use Rattle.world_laws.specs.Stamping.{Givens, heard}
 use Rattle.world_laws.specs.Carrying.{new_stamp, Sets, ConnSays}
-use Rattle.world_acks.specs.Closing.{StandsClosed, AllClosed}
-use Rattle.world_acks.specs.Acking.{PacketEnd, end_of, Asked, AsksToRead, SetUpFrom, Ends, AckedFrom, UpTells, reach_of, Numbers}
-use Rattle.world_acks.proofs.Frame.{begins-first}
-use Rattle.world_acks.proofs.Turning.{HeardTells, Known, same-asked, never-both}
+use Rattle.world_writers.specs.WorldAcks.Closing.{StandsClosed, AllClosed}
+use Rattle.world_writers.specs.WorldAcks.Acking.{PacketEnd, end_of, Asked, AsksToRead, SetUpFrom, Ends, AckedFrom, UpTells, reach_of, Numbers}
+use Rattle.world_writers.proofs.WorldAcks.Frame.{begins-first}
+use Rattle.world_writers.proofs.WorldAcks.Turning.{HeardTells, Known, same-asked, never-both}
 use Rattle.world_writers.specs.Piping.{setup_stamp, IsPipeline, Piped, PipedOf}
 use Rattle.world_writers.proofs.Hearing.{latest-is}
 use Rattle.world_writers.proofs.Standing.{verdict-good}
-use Rattle.world_finals.specs.Finishing.{is_closing, has_packets, WriterEnds}
+use Rattle.world_writers.specs.WorldFinals.Finishing.{is_closing, has_packets, WriterEnds}
 use Rattle.world_closings.specs.Answering.{MembersClosed, AsksToClose, ClosesIn}
 use Rattle.world_closings.proofs.Nearing.{fail-passes, ended-passes}
 

@@ -26,16 +26,16 @@ use Rattle.world_laws.proofs.PlacedLaws.{all-placed}
 use Rattle.world_laws.proofs.Agreements.{office-and-writer-agree}
 use Rattle.world_laws.specs.Stamping.{Givens, none_given, given_by, given_in, heard}
 use Rattle.world_laws.proofs.ByteLeaves.{Facts}
-use Rattle.world_recoveries.proofs.AllRecovering.{happens-fits}
-use Rattle.world_acks.specs.Closing.{HasClosed, StandsClosed}
-use Rattle.world_acks.specs.Acking.{Ends}
-use Rattle.world_acks.proofs.Turning.{Known}
-use Rattle.world_acks.proofs.AllAcked.{Told, happens-told, last-closed, all-known}
+use Rattle.world_writers.proofs.WorldRecoveries.AllRecovering.{happens-fits}
+use Rattle.world_writers.specs.WorldAcks.Closing.{HasClosed, StandsClosed}
+use Rattle.world_writers.specs.WorldAcks.Acking.{Ends}
+use Rattle.world_writers.proofs.WorldAcks.Turning.{Known}
+use Rattle.world_writers.proofs.WorldAcks.AllAcked.{Told, happens-told, last-closed, all-known}
 use Rattle.world_writers.proofs.AllPiped.{all-piped}
 use Rattle.world_writers.proofs.Kept.{kept}
-use Rattle.world_finals.specs.Finishing.{no_ids, ids_in}
-use Rattle.world_finals.proofs.AllFinal.{all-final}
-use Rattle.world_finals.proofs.Laws.{all-agree}
+use Rattle.world_writers.specs.WorldFinals.Finishing.{no_ids, ids_in}
+use Rattle.world_writers.proofs.WorldFinals.AllFinal.{all-final}
+use Rattle.world_writers.proofs.WorldFinals.Laws.{all-agree}
 use Rattle.world_closings.specs.Answering.{Closes, AllClose}
 use Rattle.world_closings.proofs.Completing.{known-of}
 use Rattle.world_closings.proofs.Answers.{RunsNamed, happens-closed}

@@ -6,3 +6,5 @@ pub mod Nearing
 pub mod Hearing
 pub mod Events
 pub mod Laws
+pub mod WorldFinals
+pub mod WorldWriters

@@ -22,7 +22,7 @@ use Rattle.world.specs.Events.{run}
 use Rattle.world.specs.Safe.{Has}
 use Rattle.world_laws.specs.Stamping.{Givens, none_given, given_in, heard}
 use Rattle.world_laws.specs.Carrying.{Sets}
-use Rattle.world_acks.specs.Closing.{StandsClosed}
+use Rattle.world_writers.specs.WorldAcks.Closing.{StandsClosed}
 
 -- These members have closed under the stamp of a setup that was asked, and stay so: each whose port in requests is
 -- that of its node.

@@ -1,2 +1,4 @@
 pub mod Answering
 pub mod Safety
+pub mod WorldFinals
+pub mod WorldWriters

@@ -13,13 +13,13 @@ use Rattle.fault_ports.specs.Cuts.{cut_channel, with_cut}
 use Rattle.road_traffic.specs.Showing.{Net, IsSane, RoadsShow}
 use Rattle.road_traffic.specs.Traffic.{Traffic, Traffics, before_end, channel_of, carried_of, Fits, changed}
 use Rattle.road_traffic.proofs.TrafficLemmas.{each-traffic, same-itself}
-use Rattle.world.specs.declared.events.Direction.TheVariants as direction
-use Rattle.world.specs.declared.events.Event.{Event}
-use Rattle.world.specs.declared.events.Event.TheVariants as event
-use Rattle.world.specs.Connections.{lesser, lost_marks}
-use Rattle.world.specs.Events.{happens, outcome, where_so, lost, after_event}
-use Rattle.world.specs.Parts.{Message, Marks}
-use Rattle.world.specs.Worlds.{World, put}
+use Rattle.world_nets.specs.World.Direction.TheVariants as direction
+use Rattle.world_nets.specs.World.Event.{Event}
+use Rattle.world_nets.specs.World.Event.TheVariants as event
+use Rattle.world_nets.specs.World.Connections.{lesser, lost_marks}
+use Rattle.world_nets.specs.World.Events.{happens, outcome, where_so, lost, after_event}
+use Rattle.world_nets.specs.World.Parts.{Message, Marks}
+use Rattle.world_nets.specs.World.Worlds.{World, put}
 use Rattle.world_nets.specs.Rows.{Row, rows_of, text_of}
 use Rattle.world_nets.specs.Nets.{IsRow, AreRows, IsNetOf, held_by, is_over}
 use Rattle.world_cuts.specs.Cutting.{cut_traffic, cut_direction, cut_net, RoadsCut, CutsRoads, CutsShow, cut_world, IsCut, CutsNet, EndsStayInCuts}

@@ -8,11 +8,11 @@ use Rattle.hd_base.specs.declared.roads.Roads as roads
 use Rattle.fault_ports.specs.Cuts.{with_cut}
 use Rattle.road_traffic.specs.Showing.{Net, IsSane, RoadsShow, with_traffic}
 use Rattle.road_traffic.specs.Traffic.{Traffic, changed}
-use Rattle.world.specs.declared.events.Direction.TheVariants as direction
-use Rattle.world.specs.declared.events.Event.TheVariants as event
-use Rattle.world.specs.Connections.{lesser, lost_marks}
-use Rattle.world.specs.Events.{happens}
-use Rattle.world.specs.Worlds.{World, put}
+use Rattle.world_nets.specs.World.Direction.TheVariants as direction
+use Rattle.world_nets.specs.World.Event.TheVariants as event
+use Rattle.world_nets.specs.World.Connections.{lesser, lost_marks}
+use Rattle.world_nets.specs.World.Events.{happens}
+use Rattle.world_nets.specs.World.Worlds.{World, put}
 use Rattle.world_nets.specs.Nets.{IsNetOf, IsEndOf}
 
 -- CONNECTIONS

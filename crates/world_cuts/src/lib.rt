@@ -5,3 +5,4 @@
 mod laws;
 
 pub use laws::{cuts_are_losses, cuts_show, ends_stay_in_cuts};
+pub use world_nets::{ends_elsewhere_stay, idle_flushes_are_nets, losses_are_nets, nets_stay_sane};

@@ -16,9 +16,9 @@ use Rattle.replica_model.specs.Rows.{FullReplica}
 use Rattle.member_core.specs.declared.requests.SetupKind.{SetupKind}
 use Rattle.member_core.specs.declared.requests.SetupKind.TheVariants as kind
 use Rattle.member_core.specs.Requests.{setup_with}
-use Rattle.read_core.specs.Readings.{ReadTaken, take_from}
-use Rattle.read_core.specs.declared.reading.ReadTurn.{ReadTurn}
-use Rattle.read_core.specs.declared.reading.ReadTurn.TheVariants as turn
+use Rattle.world.specs.ReadCore.Readings.{ReadTaken, take_from}
+use Rattle.world.specs.ReadCore.ReadTurn.{ReadTurn}
+use Rattle.world.specs.ReadCore.ReadTurn.TheVariants as turn
 use Rattle.writer_core.specs.declared.actions.Action.{Action}
 use Rattle.writer_core.specs.declared.actions.Action.TheVariants as action
 use Rattle.writer_core.specs.declared.commands.Command.{Command}

@@ -41,9 +41,9 @@ use Rattle.member_core.specs.declared.turns.Turn.{Turn}
 use Rattle.member_core.specs.Members.{MemberState, down_turn, up_turn, hears}
 use Rattle.member_core.specs.Requests.{setup_with, rule_for, named_setup, named_rule, setup_event, mirror_request, request_event}
 use Rattle.member_core.specs.Steps.{Step, Setup, step, faulted_step, replica_after, outcome_of, request_at, request_step, booked_request, faulted_request, oldest_at, ready_turn_at}
-use Rattle.read_core.specs.Servings.{ServingState, read_at, read_event, next_call, call_at, piece_at}
-use Rattle.read_core.specs.declared.serving.ServePhase.{ServePhase}
-use Rattle.read_core.specs.declared.serving.ServePhase.TheVariants as serve_phase
+use Rattle.world.specs.ReadCore.Servings.{ServingState, read_at, read_event, next_call, call_at, piece_at}
+use Rattle.world.specs.ReadCore.ServePhase.{ServePhase}
+use Rattle.world.specs.ReadCore.ServePhase.TheVariants as serve_phase
 use Rattle.recovery_core.specs.declared.members.RecoveryReply.{RecoveryReply}
 use Rattle.recovery_core.specs.Members.{no_recovery, step_event, recovery_event, served_as, serve_faulted}
 use Rattle.world.specs.Parts.{Message, request, packet, ack, response, read_status, recovery_answer, FullMember, Lower, idle, writes, serves, recovers, ended_below, Writing, Primary, Break}

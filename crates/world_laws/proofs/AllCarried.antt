@@ -4,8 +4,8 @@ use Rattle.std.specs.Prelude.{◌&&◌, not, nat_lt, option_map, if◌then◌els
 use Rattle.std.proofs.lemmas.Bool.Decides.{nat_tests}
 use Rattle.std.proofs.lemmas.Option.{none-some, same_Some}
 use Rattle.hd_base.specs.SumRules.{default_rule}
-use Rattle.replica_model.specs.Rows.{IsFull}
-use Rattle.writer_core.proofs.SoundLemmas.{fresh_sound}
+use Rattle.world.specs.ReplicaModel.Rows.{IsFull}
+use Rattle.world.proofs.WriterCore.SoundLemmas.{fresh_sound}
 use Rattle.world.specs.declared.events.Delivery.{Delivery}
 use Rattle.world.specs.declared.events.Delivery.TheVariants as delivery
 use Rattle.world.specs.declared.events.Direction.{Direction}

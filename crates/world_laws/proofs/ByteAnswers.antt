@@ -13,18 +13,18 @@ use Rattle.name_core.specs.declared.records.BlockRecord.{BlockRecord}
 use Rattle.name_core.specs.declared.records.TheConstants.{MAX_APPEND_LENGTH}
 use Rattle.name_core.specs.Records.{opened}
 use Rattle.name_core.proofs.CaseLemmas.{IsWriters}
-use Rattle.packet_stream.specs.Carried.{Carries}
-use Rattle.packet_stream.specs.Streams.{StreamState, begun, written_in}
-use Rattle.packet_stream.proofs.CarryLemmas.{begun_carries}
-use Rattle.packet_stream.proofs.StreamLemmas.{begun_written}
-use Rattle.replica_model.specs.Found.{IsFront}
-use Rattle.writer_core.specs.declared.phases.Phase.{Phase}
-use Rattle.writer_core.specs.declared.phases.Phase.TheVariants as phase
-use Rattle.writer_core.specs.declared.phases.Setup.{Setup}
-use Rattle.writer_core.specs.declared.phases.Setup.TheVariants as setup
-use Rattle.writer_core.specs.declared.records.WriterRecord.{WriterRecord}
-use Rattle.writer_core.specs.Requests.{min_length}
-use Rattle.writer_core.specs.Transitions.{granted, refused, asks, phase_committed}
+use Rattle.world.specs.PacketStream.Carried.{Carries}
+use Rattle.world.specs.PacketStream.Streams.{StreamState, begun, written_in}
+use Rattle.world.proofs.PacketStream.CarryLemmas.{begun_carries}
+use Rattle.world.proofs.PacketStream.StreamLemmas.{begun_written}
+use Rattle.world.specs.ReplicaModel.Found.{IsFront}
+use Rattle.world.specs.WriterCore.Phase.{Phase}
+use Rattle.world.specs.WriterCore.Phase.TheVariants as phase
+use Rattle.world.specs.WriterCore.Setup.{Setup}
+use Rattle.world.specs.WriterCore.Setup.TheVariants as setup
+use Rattle.world.specs.WriterCore.WriterRecord.{WriterRecord}
+use Rattle.world.specs.WriterCore.Requests.{min_length}
+use Rattle.world.specs.WriterCore.Transitions.{granted, refused, asks, phase_committed}
 use Rattle.world.specs.Worlds.{Past, put}
 use Rattle.world_laws.proofs.FactTables.{if-each}
 use Rattle.world_laws.proofs.OfficeSteps.{IsAgain, IsLater}

@@ -7,27 +7,27 @@ use Rattle.std.proofs.lemmas.Option.{none-some, same_Some}
 use Rattle.hd_base.specs.Results.{◌>>=◌}
 use Rattle.hd_base.specs.SumRules.{Rule}
 use Rattle.hd_base.specs.declared.numbers.ConnId.{ConnId}
-use Rattle.op_headers.specs.declared.nodes.NodeRef.{NodeRef}
-use Rattle.op_headers.specs.declared.ops.Op.TheVariants as op
-use Rattle.op_headers.specs.Values.{WriteFields}
-use Rattle.node_refs.specs.NodeRefs.{ref_of}
+use Rattle.world.specs.OpHeaders.NodeRef.{NodeRef}
+use Rattle.world.specs.OpHeaders.Op.TheVariants as op
+use Rattle.world.specs.OpHeaders.Values.{WriteFields}
+use Rattle.world.specs.NodeRefs.NodeRefs.{ref_of}
 use Rattle.replica_core.specs.declared.events.Event.{Event}
 use Rattle.replica_core.specs.Views.{rule_in}
-use Rattle.replica_model.specs.declared.events.ReplicaEvent.TheVariants as replica_event
-use Rattle.replica_model.specs.Rows.{FullReplica, row, row_answer}
-use Rattle.request_refusals.specs.declared.refusals.RequestRefusal.{RequestRefusal}
-use Rattle.request_refusals.specs.declared.refusals.RequestRefusal.TheVariants as refusal
-use Rattle.request_refusals.specs.Pools.{is_in_pool}
-use Rattle.member_core.specs.declared.effects.Upward.{Upward}
-use Rattle.member_core.specs.declared.effects.Upward.TheVariants as upward
-use Rattle.member_core.specs.declared.member.Mirror.{Mirror}
-use Rattle.member_core.specs.declared.member.Mirror.TheVariants as mirror
-use Rattle.member_core.specs.declared.requests.SetupKind.{SetupKind}
-use Rattle.member_core.specs.declared.requests.SetupKind.TheVariants as kind
-use Rattle.member_core.specs.declared.requests.TheConstants.{MAX_BELOW, MAX_PORT}
-use Rattle.member_core.specs.Members.{MemberState, mirror_for, set_up, set_up_at}
-use Rattle.member_core.specs.Requests.{setup_with, rule_for, named_setup, named_rule, setup_event, request_event, request_from, request_to, mirror_request}
-use Rattle.member_core.specs.Steps.{Setup, request_at, booked_request, refused_by, request_step, faulted_request}
+use Rattle.world.specs.ReplicaModel.ReplicaEvent.TheVariants as replica_event
+use Rattle.world.specs.ReplicaModel.Rows.{FullReplica, row, row_answer}
+use Rattle.world.specs.RequestRefusals.RequestRefusal.{RequestRefusal}
+use Rattle.world.specs.RequestRefusals.RequestRefusal.TheVariants as refusal
+use Rattle.world.specs.RequestRefusals.Pools.{is_in_pool}
+use Rattle.world.specs.MemberCore.Upward.{Upward}
+use Rattle.world.specs.MemberCore.Upward.TheVariants as upward
+use Rattle.world.specs.MemberCore.Mirror.{Mirror}
+use Rattle.world.specs.MemberCore.Mirror.TheVariants as mirror
+use Rattle.world.specs.MemberCore.SetupKind.{SetupKind}
+use Rattle.world.specs.MemberCore.SetupKind.TheVariants as kind
+use Rattle.world.specs.MemberCore.TheConstants.{MAX_BELOW, MAX_PORT}
+use Rattle.world.specs.MemberCore.Members.{MemberState, mirror_for, set_up, set_up_at}
+use Rattle.world.specs.MemberCore.Requests.{setup_with, rule_for, named_setup, named_rule, setup_event, request_event, request_from, request_to, mirror_request}
+use Rattle.world.specs.MemberCore.Steps.{Setup, request_at, booked_request, refused_by, request_step, faulted_request}
 use Rattle.world.specs.Parts.{Message, request, by_primary, by_member, Break}
 use Rattle.world.specs.Worlds.{Past, World, Dial, Change, dial_at, listed, past_after, apply}
 use Rattle.world.specs.Nodes.{node_of, replica_at, block_of, broke_at, upward_message, sent_up, mirror_node, runs_there, is_asked, mirror_dial, dials_of, member_dials, mirror_conn, lower_of, setup_change, failing_write, write_request}

@@ -1,10 +1,10 @@
 -- Own steps of writers and readers, and what they take.
 use Rattle.std.proofs.Common.{◌≡◌, ℕ, ◌+◌, ◌⊎◌, inl, inr, Bool, true, false, List, [], ◌∷◌, ◌++◌, length, slice_get, Option, Some, None, IfSome, Result, Ok, Err, refl, sym, ◌∙◌, ap, subst, arith}
 use Rattle.std.specs.Prelude.{◌==◌, ◌&&◌, not, nat_le, is_none}
-use Rattle.packet_codec.specs.declared.packets.Packet.{Packet}
-use Rattle.writer_core.specs.declared.phases.DuePacket.{DuePacket}
-use Rattle.writer_core.specs.declared.phases.DuePacket.TheVariants as due
-use Rattle.replica_model.specs.Rows.{FullReplica}
+use Rattle.world.specs.PacketCodec.Packet.{Packet}
+use Rattle.world.specs.WriterCore.DuePacket.{DuePacket}
+use Rattle.world.specs.WriterCore.DuePacket.TheVariants as due
+use Rattle.world.specs.ReplicaModel.Rows.{FullReplica}
 use Rattle.world.specs.Parts.{Break, Lower}
 use Rattle.std.proofs.lemmas.Bool.{false≢true}
 use Rattle.std.proofs.lemmas.Bool.Decides.{nat_tests}
@@ -15,32 +15,32 @@ use Rattle.hd_base.specs.declared.numbers.NodeId.{NodeId}
 use Rattle.hd_base.specs.declared.numbers.Stamp.{Stamp}
 use Rattle.name_core.specs.declared.records.BlockRecord.{BlockRecord}
 use Rattle.name_core.specs.Offices.{record_of}
-use Rattle.op_headers.specs.declared.ops.Op.{Op}
-use Rattle.op_headers.specs.declared.ops.Op.TheVariants as op
-use Rattle.op_headers.specs.declared.ops.ReadOp.{ReadOp}
-use Rattle.packet_stream.specs.Streams.{begun}
-use Rattle.packet_stream.proofs.StreamLemmas.{begun_is, begun_written}
-use Rattle.read_core.specs.declared.reading.ReadTurn.{ReadTurn}
-use Rattle.read_core.specs.declared.reading.ReadTurn.TheVariants as turn
-use Rattle.read_core.specs.Readings.{ReadTaken, take_from}
-use Rattle.writer_core.specs.declared.actions.Action.TheVariants as action
-use Rattle.writer_core.specs.declared.commands.Command.{Command}
-use Rattle.writer_core.specs.declared.commands.Command.TheVariants as command
-use Rattle.writer_core.specs.declared.commands.CommandFault.{CommandFault}
-use Rattle.writer_core.specs.declared.intake.Intake.{Intake}
-use Rattle.writer_core.specs.declared.phases.Failure.{Failure}
-use Rattle.writer_core.specs.declared.phases.Phase.{Phase}
-use Rattle.writer_core.specs.declared.phases.Phase.TheVariants as phase
-use Rattle.writer_core.specs.declared.phases.Setup.{Setup}
-use Rattle.writer_core.specs.declared.phases.Setup.TheVariants as setup
-use Rattle.writer_core.specs.declared.phases.Waiting.{Waiting}
-use Rattle.writer_core.specs.declared.records.WriterRecord.{WriterRecord}
-use Rattle.writer_core.specs.Commands.{admitted}
-use Rattle.writer_core.specs.Requests.{request_for}
-use Rattle.writer_core.specs.Sound.{Sound}
-use Rattle.writer_core.specs.Transitions.{given_as, given, own_step, dial_step, dial_step_as, open_step, completed_step, free_step_as, take_first, failed_first, failed_command, failed_step_as, accepted_step, step_in, granted, dialled_in, dialled, is_connected, form_step, reach_step_as, reached_length, due_step, due_now, stream_step_as}
-use Rattle.writer_core.specs.Transitions as writer
-use Rattle.writer_core.proofs.SoundLemmas.{answered as answered_sound, own_step_sound, dialled_sound, setup_sound, acked_sound, ended_sound, given_sound}
+use Rattle.world.specs.OpHeaders.Op.{Op}
+use Rattle.world.specs.OpHeaders.Op.TheVariants as op
+use Rattle.world.specs.OpHeaders.ReadOp.{ReadOp}
+use Rattle.world.specs.PacketStream.Streams.{begun}
+use Rattle.world.proofs.PacketStream.StreamLemmas.{begun_is, begun_written}
+use Rattle.world.specs.ReadCore.ReadTurn.{ReadTurn}
+use Rattle.world.specs.ReadCore.ReadTurn.TheVariants as turn
+use Rattle.world.specs.ReadCore.Readings.{ReadTaken, take_from}
+use Rattle.world.specs.WriterCore.Action.TheVariants as action
+use Rattle.world.specs.WriterCore.Command.{Command}
+use Rattle.world.specs.WriterCore.Command.TheVariants as command
+use Rattle.world.specs.WriterCore.CommandFault.{CommandFault}
+use Rattle.world.specs.WriterCore.Intake.{Intake}
+use Rattle.world.specs.WriterCore.Failure.{Failure}
+use Rattle.world.specs.WriterCore.Phase.{Phase}
+use Rattle.world.specs.WriterCore.Phase.TheVariants as phase
+use Rattle.world.specs.WriterCore.Setup.{Setup}
+use Rattle.world.specs.WriterCore.Setup.TheVariants as setup
+use Rattle.world.specs.WriterCore.Waiting.{Waiting}
+use Rattle.world.specs.WriterCore.WriterRecord.{WriterRecord}
+use Rattle.world.specs.WriterCore.Commands.{admitted}
+use Rattle.world.specs.WriterCore.Requests.{request_for}
+use Rattle.world.specs.WriterCore.Sound.{Sound}
+use Rattle.world.specs.WriterCore.Transitions.{given_as, given, own_step, dial_step, dial_step_as, open_step, completed_step, free_step_as, take_first, failed_first, failed_command, failed_step_as, accepted_step, step_in, granted, dialled_in, dialled, is_connected, form_step, reach_step_as, reached_length, due_step, due_now, stream_step_as}
+use Rattle.world.specs.WriterCore.Transitions as writer
+use Rattle.world.proofs.WriterCore.SoundLemmas.{answered as answered_sound, own_step_sound, dialled_sound, setup_sound, acked_sound, ended_sound, given_sound}
 use Rattle.world.specs.declared.events.TakenCommand.{TakenCommand}
 use Rattle.world.specs.Parts.{Message, request, packet, ack, response, read_status, recovery_answer, by_writer, by_reader, by_primary, Told, Reader, no_reader, reads, has_read}
 use Rattle.world.specs.Worlds.{Past, World, Dial, Change, past_after}

@@ -6,14 +6,14 @@ use Rattle.std.proofs.lemmas.Option.{none-some}
 use Rattle.hd_base.specs.Results.{◌>>=◌}
 use Rattle.hd_base.specs.declared.numbers.ConnId.{ConnId}
 use Rattle.hd_base.specs.declared.numbers.Stamp.{Stamp}
-use Rattle.op_headers.specs.declared.ops.Op.{Op}
-use Rattle.op_headers.specs.declared.ops.Op.TheVariants as op
-use Rattle.op_headers.specs.declared.ops.ReadOp.{ReadOp}
-use Rattle.op_headers.specs.declared.ops.RecoveryKind.{RecoveryKind}
-use Rattle.op_headers.specs.declared.ops.RecoveryKind.TheVariants as recovery_kind
-use Rattle.op_headers.specs.declared.ops.RecoveryOp.{RecoveryOp}
-use Rattle.packet_codec.specs.declared.packets.Packet.{Packet}
-use Rattle.packet_stream.specs.Carried.{IsPiece}
+use Rattle.world.specs.OpHeaders.Op.{Op}
+use Rattle.world.specs.OpHeaders.Op.TheVariants as op
+use Rattle.world.specs.OpHeaders.ReadOp.{ReadOp}
+use Rattle.world.specs.OpHeaders.RecoveryKind.{RecoveryKind}
+use Rattle.world.specs.OpHeaders.RecoveryKind.TheVariants as recovery_kind
+use Rattle.world.specs.OpHeaders.RecoveryOp.{RecoveryOp}
+use Rattle.world.specs.PacketCodec.Packet.{Packet}
+use Rattle.world.specs.PacketStream.Carried.{IsPiece}
 use Rattle.replica_core.specs.declared.events.Answer.{Answer}
 use Rattle.replica_core.specs.declared.events.Answer.TheVariants as answer
 use Rattle.replica_core.specs.declared.events.Event.{Event}
@@ -25,23 +25,23 @@ use Rattle.replica_core.specs.Transitions.{Outcome, transition, present, set_wri
 use Rattle.replica_core.specs.Transitions as core
 use Rattle.replica_core.specs.Views.{written_at}
 use Rattle.replica_core.proofs.InfoLemmas.{present_is}
-use Rattle.replica_model.specs.declared.events.ReplicaEvent.{ReplicaEvent}
-use Rattle.replica_model.specs.declared.events.ReplicaEvent.TheVariants as replica_event
-use Rattle.replica_model.specs.Rows.{FullReplica, row_answer, broken}
-use Rattle.request_refusals.specs.declared.refusals.RequestRefusal.{RequestRefusal}
-use Rattle.request_refusals.specs.declared.refusals.RequestRefusal.TheVariants as refusal
-use Rattle.request_refusals.specs.Pools.{is_in_pool}
-use Rattle.member_core.specs.declared.inputs.FromAbove.TheVariants as above
-use Rattle.member_core.specs.declared.turns.Turn.{Turn}
-use Rattle.member_core.specs.declared.turns.Booked.TheVariants as booked
-use Rattle.member_core.specs.Members.{down_turn, up_turn, hears}
-use Rattle.member_core.specs.Steps.{Step, step, faulted_step, replica_after, outcome_of, oldest_at, ready_turn_at}
-use Rattle.read_core.specs.declared.serving.ServePhase.{ServePhase}
-use Rattle.read_core.specs.declared.serving.ServePhase.TheVariants as serve_phase
-use Rattle.read_core.specs.Servings.{ServingState, read_at, read_event, next_call, call_at, piece_at}
-use Rattle.recovery_core.specs.declared.members.RecoveryReply.{RecoveryReply}
-use Rattle.recovery_core.specs.declared.members.RecoveryReply.TheVariants as reply
-use Rattle.recovery_core.specs.Members.{Served, no_recovery, step_event, recovery_event, reply_to, answer_of, served_as, serve, serve_faulted}
+use Rattle.world.specs.ReplicaModel.ReplicaEvent.{ReplicaEvent}
+use Rattle.world.specs.ReplicaModel.ReplicaEvent.TheVariants as replica_event
+use Rattle.world.specs.ReplicaModel.Rows.{FullReplica, row_answer, broken}
+use Rattle.world.specs.RequestRefusals.RequestRefusal.{RequestRefusal}
+use Rattle.world.specs.RequestRefusals.RequestRefusal.TheVariants as refusal
+use Rattle.world.specs.RequestRefusals.Pools.{is_in_pool}
+use Rattle.world.specs.MemberCore.FromAbove.TheVariants as above
+use Rattle.world.specs.MemberCore.Turn.{Turn}
+use Rattle.world.specs.MemberCore.Booked.TheVariants as booked
+use Rattle.world.specs.MemberCore.Members.{down_turn, up_turn, hears}
+use Rattle.world.specs.MemberCore.Steps.{Step, step, faulted_step, replica_after, outcome_of, oldest_at, ready_turn_at}
+use Rattle.world.specs.ReadCore.ServePhase.{ServePhase}
+use Rattle.world.specs.ReadCore.ServePhase.TheVariants as serve_phase
+use Rattle.world.specs.ReadCore.Servings.{ServingState, read_at, read_event, next_call, call_at, piece_at}
+use Rattle.world.specs.RecoveryCore.RecoveryReply.{RecoveryReply}
+use Rattle.world.specs.RecoveryCore.RecoveryReply.TheVariants as reply
+use Rattle.world.specs.RecoveryCore.Members.{Served, no_recovery, step_event, recovery_event, reply_to, answer_of, served_as, serve, serve_faulted}
 use Rattle.world.specs.Parts.{Message, request, packet, ack, response, read_status, recovery_answer, FullMember, Lower, idle, writes, serves, recovers, ended_below, Break}
 use Rattle.world.specs.Worlds.{Past, World, Change, past_after, apply}
 use Rattle.world.specs.Connections.{Next, message, the_end, is_alive}

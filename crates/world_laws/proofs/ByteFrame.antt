@@ -6,12 +6,12 @@ use Rattle.std.proofs.lemmas.Option.{none-some, same_Some}
 use Rattle.hd_base.specs.declared.numbers.Stamp.{Stamp}
 use Rattle.name_core.specs.declared.records.BlockRecord.{BlockRecord}
 use Rattle.name_core.specs.Offices.{record_of}
-use Rattle.packet_stream.specs.Streams.{StreamState}
-use Rattle.replica_model.specs.Rows.{FullReplica}
-use Rattle.replica_model.specs.Found.{IsFront}
-use Rattle.writer_core.specs.declared.phases.Phase.{Phase}
-use Rattle.writer_core.specs.declared.phases.Phase.TheVariants as phase
-use Rattle.writer_core.specs.Requests.{min_length}
+use Rattle.world.specs.PacketStream.Streams.{StreamState}
+use Rattle.world.specs.ReplicaModel.Rows.{FullReplica}
+use Rattle.world.specs.ReplicaModel.Found.{IsFront}
+use Rattle.world.specs.WriterCore.Phase.{Phase}
+use Rattle.world.specs.WriterCore.Phase.TheVariants as phase
+use Rattle.world.specs.WriterCore.Requests.{min_length}
 use Rattle.world.specs.Parts.{Message, by_primary, Lower, Writing, Primary, Break}
 use Rattle.world.specs.Worlds.{Past, World, Dial, Change, put, put_at, add, listed, dial_at, latest_with, past_after, apply}
 use Rattle.world_laws.specs.Growing.{Begins, Grows}

@@ -2,19 +2,19 @@
 use Rattle.std.proofs.Common.{◌≡◌, ℕ, ◌<◌, ◌≤◌, ◌⊎◌, inl, inr, List, slice_get, Option, Some, None, Ok, Err, sym, ◌∙◌, subst, arith}
 use Rattle.hd_base.specs.declared.numbers.Stamp.{Stamp}
 use Rattle.name_core.specs.declared.calls.OfficeAnswer.TheVariants as office
-use Rattle.op_headers.specs.declared.ops.Op.TheVariants as op
-use Rattle.op_headers.specs.Values.{WriteFields}
-use Rattle.packet_codec.specs.declared.packets.Packet.{Packet}
+use Rattle.world.specs.OpHeaders.Op.TheVariants as op
+use Rattle.world.specs.OpHeaders.Values.{WriteFields}
+use Rattle.world.specs.PacketCodec.Packet.{Packet}
 use Rattle.replica_core.specs.declared.info.ReplicaInfo.{ReplicaInfo}
-use Rattle.replica_model.specs.Rows.{FullReplica, row}
-use Rattle.replica_model.specs.Found.{IsFront}
-use Rattle.member_core.specs.declared.requests.SetupKind.{SetupKind}
-use Rattle.member_core.specs.declared.requests.SetupKind.TheVariants as kind
-use Rattle.member_core.specs.Requests.{setup_with}
-use Rattle.recovery_core.specs.declared.primary.Phase.{Phase as LeadPhase}
-use Rattle.recovery_core.specs.declared.primary.Phase.TheVariants as lead_phase
-use Rattle.recovery_core.specs.declared.standings.Standing.{Standing}
-use Rattle.recovery_core.specs.declared.standings.Standing.TheVariants as standing
+use Rattle.world.specs.ReplicaModel.Rows.{FullReplica, row}
+use Rattle.world.specs.ReplicaModel.Found.{IsFront}
+use Rattle.world.specs.MemberCore.SetupKind.{SetupKind}
+use Rattle.world.specs.MemberCore.SetupKind.TheVariants as kind
+use Rattle.world.specs.MemberCore.Requests.{setup_with}
+use Rattle.world.specs.RecoveryCore.Phase.{Phase as LeadPhase}
+use Rattle.world.specs.RecoveryCore.Phase.TheVariants as lead_phase
+use Rattle.world.specs.RecoveryCore.Standing.{Standing}
+use Rattle.world.specs.RecoveryCore.Standing.TheVariants as standing
 use Rattle.world.specs.Parts.{Message, request, packet, ack, response, read_status, recovery_answer, Lower, idle, writes, serves, recovers, ended_below, Told, Primary, no_primary, was_told, leads, has_led, Break}
 use Rattle.world.specs.Worlds.{Past}
 use Rattle.world_laws.proofs.FactTables.{some-weaker}

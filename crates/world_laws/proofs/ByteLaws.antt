@@ -3,8 +3,8 @@ use Rattle.std.proofs.Common.{ℕ, ◌≤◌, List, length, Option, IfSome, refl
 use Rattle.hd_base.specs.declared.numbers.Stamp.{Stamp}
 use Rattle.name_core.specs.declared.records.BlockRecord.{BlockRecord}
 use Rattle.name_core.specs.Offices.{record_of}
-use Rattle.packet_stream.specs.Carried.{IsPiece}
-use Rattle.replica_model.specs.Found.{IsFront}
+use Rattle.world.specs.PacketStream.Carried.{IsPiece}
+use Rattle.world.specs.ReplicaModel.Found.{IsFront}
 use Rattle.world.specs.declared.events.Event.{Event}
 use Rattle.world.specs.Parts.{packet}
 use Rattle.world.specs.Worlds.{World, start}

@@ -17,20 +17,20 @@ use Rattle.name_core.specs.declared.choice.Kept.{Kept}
 use Rattle.name_core.specs.declared.choice.Kept.TheVariants as kept
 use Rattle.name_core.specs.declared.infos.Info.{Info}
 use Rattle.name_core.specs.Choice.{is_finalized_candidate, is_chosen, kept_infos, lesser, least, kept_lengths, chosen, shortest, unless_other, other_length, finalized_by, first_of, choice}
-use Rattle.op_headers.specs.declared.ops.Op.TheVariants as op
-use Rattle.op_headers.specs.declared.ops.RecoveryOp.{RecoveryOp}
-use Rattle.op_headers.specs.declared.ops.RecoveryKind.TheVariants as recovery_kind
-use Rattle.recovery_core.specs.declared.primary.OwnStep.{OwnStep}
-use Rattle.recovery_core.specs.declared.primary.OwnStep.TheVariants as own
-use Rattle.recovery_core.specs.declared.primary.Phase.{Phase}
-use Rattle.recovery_core.specs.declared.primary.Phase.TheVariants as phase
-use Rattle.recovery_core.specs.declared.primary.Recovered.{Recovered}
-use Rattle.recovery_core.specs.declared.standings.Heard.{Heard}
-use Rattle.recovery_core.specs.declared.standings.Heard.TheVariants as heard
-use Rattle.recovery_core.specs.declared.standings.Standing.{Standing}
-use Rattle.recovery_core.specs.declared.standings.Standing.TheVariants as standing
-use Rattle.recovery_core.specs.Primaries.{PrimaryState, told, is_success, informed, updated, after_heard, waits, heard_as, heard_at, asked, begun_with, info_of, infos, updated_members, is_among, when_chosen, after_choice, all_after_choice, OwnTaken, taken, over, choosing, committing, own_at, own_step, request_of, office_refused, end_with}
-use Rattle.replica_model.specs.Rows.{FullReplica}
+use Rattle.world.specs.OpHeaders.Op.TheVariants as op
+use Rattle.world.specs.OpHeaders.RecoveryOp.{RecoveryOp}
+use Rattle.world.specs.OpHeaders.RecoveryKind.TheVariants as recovery_kind
+use Rattle.world.specs.RecoveryCore.OwnStep.{OwnStep}
+use Rattle.world.specs.RecoveryCore.OwnStep.TheVariants as own
+use Rattle.world.specs.RecoveryCore.Phase.{Phase}
+use Rattle.world.specs.RecoveryCore.Phase.TheVariants as phase
+use Rattle.world.specs.RecoveryCore.Recovered.{Recovered}
+use Rattle.world.specs.RecoveryCore.Heard.{Heard}
+use Rattle.world.specs.RecoveryCore.Heard.TheVariants as heard
+use Rattle.world.specs.RecoveryCore.Standing.{Standing}
+use Rattle.world.specs.RecoveryCore.Standing.TheVariants as standing
+use Rattle.world.specs.RecoveryCore.Primaries.{PrimaryState, told, is_success, informed, updated, after_heard, waits, heard_as, heard_at, asked, begun_with, info_of, infos, updated_members, is_among, when_chosen, after_choice, all_after_choice, OwnTaken, taken, over, choosing, committing, own_at, own_step, request_of, office_refused, end_with}
+use Rattle.world.specs.ReplicaModel.Rows.{FullReplica}
 use Rattle.world.specs.Parts.{Message, request, packet, ack, response, read_status, recovery_answer, Place, by_primary, Lower, Break, Told, Leading, Primary, no_primary, was_told, leads, has_led}
 use Rattle.world.specs.Worlds.{Past, World, Dial, Change, put, past_after, apply}
 use Rattle.world.specs.Connections.{Next, message, the_end, is_alive, place_of, is_conn}

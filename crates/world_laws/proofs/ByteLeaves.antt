@@ -4,14 +4,14 @@ use Rattle.std.specs.Prelude.{◌==◌}
 use Rattle.std.proofs.lemmas.Option.{none-some}
 use Rattle.name_core.specs.declared.records.BlockRecord.{BlockRecord}
 use Rattle.name_core.specs.Offices.{OfficeState, record_of}
-use Rattle.replica_model.specs.declared.events.ReplicaEvent.{ReplicaEvent}
-use Rattle.replica_model.specs.Rows.{FullReplica, IsFull}
+use Rattle.world.specs.ReplicaModel.ReplicaEvent.{ReplicaEvent}
+use Rattle.world.specs.ReplicaModel.Rows.{FullReplica, IsFull}
 use Rattle.world.specs.Parts.{Message, by_primary, Writing, Primary, Break}
 use Rattle.world.specs.Worlds.{Past, World, Dial, Stamped, Change, put, latest_with, past_after, apply}
 use Rattle.world.specs.Connections.{sent_on}
 use Rattle.world.specs.Nodes.{node_of, replica_at, first_break, broke_at}
 use Rattle.world_laws.proofs.FactTables.{if-each, put-each, some-weaker}
-use Rattle.writer_core.specs.declared.records.WriterRecord.{WriterRecord}
+use Rattle.world.specs.WriterCore.WriterRecord.{WriterRecord}
 use Rattle.world_laws.specs.Stamping.{Givens, HeldOf, heard, Recorded}
 use Rattle.world_laws.specs.Carrying.{DownSays, UpSays, ReplicaSays, BreakSays, LowerSays, WriterSays, EntrySays, PrimarySays, LedBy, Carried}
 use Rattle.world_laws.proofs.Fronts.{front-refl}

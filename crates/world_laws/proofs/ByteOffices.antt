@@ -17,21 +17,21 @@ use Rattle.name_core.specs.Records.{opened}
 use Rattle.name_core.specs.Offices.{OfficeState, record_of, stamp_given, office_after, answer_to, office_case}
 use Rattle.name_core.proofs.BlockLemmas.{record_of-with_record_same, record_of-with_new_record_same}
 use Rattle.name_core.proofs.CaseLemmas.{each_case}
-use Rattle.replica_model.specs.Rows.{FullReplica}
-use Rattle.replica_model.specs.Found.{IsFront}
-use Rattle.recovery_core.specs.declared.primary.OwnStep.{OwnStep}
-use Rattle.recovery_core.specs.declared.primary.OwnStep.TheVariants as step
-use Rattle.recovery_core.specs.Primaries.{sync_call}
-use Rattle.recovery_core.specs.Primaries as primary
-use Rattle.writer_core.specs.declared.actions.Action.{Action}
-use Rattle.writer_core.specs.declared.actions.Action.TheVariants as action
-use Rattle.writer_core.specs.declared.phases.Phase.{Phase}
-use Rattle.writer_core.specs.declared.phases.Phase.TheVariants as phase
-use Rattle.writer_core.specs.declared.phases.Setup.TheVariants as setup
-use Rattle.writer_core.specs.declared.records.WriterRecord.{WriterRecord}
-use Rattle.writer_core.specs.Transitions.{own_step, granted, is_connected}
-use Rattle.writer_core.specs.Sound.{Sound}
-use Rattle.writer_core.proofs.SoundLemmas.{granted_sound}
+use Rattle.world.specs.ReplicaModel.Rows.{FullReplica}
+use Rattle.world.specs.ReplicaModel.Found.{IsFront}
+use Rattle.world.specs.RecoveryCore.OwnStep.{OwnStep}
+use Rattle.world.specs.RecoveryCore.OwnStep.TheVariants as step
+use Rattle.world.specs.RecoveryCore.Primaries.{sync_call}
+use Rattle.world.specs.RecoveryCore.Primaries as primary
+use Rattle.world.specs.WriterCore.Action.{Action}
+use Rattle.world.specs.WriterCore.Action.TheVariants as action
+use Rattle.world.specs.WriterCore.Phase.{Phase}
+use Rattle.world.specs.WriterCore.Phase.TheVariants as phase
+use Rattle.world.specs.WriterCore.Setup.TheVariants as setup
+use Rattle.world.specs.WriterCore.WriterRecord.{WriterRecord}
+use Rattle.world.specs.WriterCore.Transitions.{own_step, granted, is_connected}
+use Rattle.world.specs.WriterCore.Sound.{Sound}
+use Rattle.world.proofs.WriterCore.SoundLemmas.{granted_sound}
 use Rattle.world.specs.declared.events.Caller.{Caller}
 use Rattle.world.specs.declared.events.Caller.TheVariants as caller
 use Rattle.world.specs.Parts.{Message, by_primary, Lower, Break, Told, Writing, Leading, Primary, no_primary, was_told, leads, has_led}

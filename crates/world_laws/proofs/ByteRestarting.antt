@@ -7,9 +7,9 @@ use Rattle.hd_base.specs.declared.states.ReplicaState.{ReplicaState}
 use Rattle.hd_base.specs.SumRules.{Rule}
 use Rattle.replica_core.specs.declared.info.ReplicaInfo.{ReplicaInfo}
 use Rattle.replica_core.specs.Info.{is_temporary}
-use Rattle.replica_model.specs.Rows.{FullReplica, row}
-use Rattle.replica_model.specs.Plans.{plan, has_changing}
-use Rattle.replica_model.specs.Found.{Found, IsFront, found_as, found_whole, settled_state, IsWaiting, MayFindBetween, waits_old_before, waits_old_after, waits_new_before, waits_new_after, stays_final, becomes_final, cut_final, MayFindNew, MayFindReceived, MayFindChanged, MayFindAmid, MayFindWithin}
+use Rattle.world.specs.ReplicaModel.Rows.{FullReplica, row}
+use Rattle.world.specs.ReplicaModel.Plans.{plan, has_changing}
+use Rattle.world.specs.ReplicaModel.Found.{Found, IsFront, found_as, found_whole, settled_state, IsWaiting, MayFindBetween, waits_old_before, waits_old_after, waits_new_before, waits_new_after, stays_final, becomes_final, cut_final, MayFindNew, MayFindReceived, MayFindChanged, MayFindAmid, MayFindWithin}
 use Rattle.world.specs.declared.events.FoundReplica.{FoundReplica}
 use Rattle.world.specs.Parts.{Break}
 use Rattle.world.specs.Worlds.{Past, World}

@@ -12,9 +12,9 @@ use Rattle.hd_base.specs.declared.numbers.Stamp.{Stamp}
 use Rattle.hd_base.specs.declared.states.ReplicaState.{ReplicaState}
 use Rattle.hd_base.specs.declared.states.ReplicaState.TheVariants as state
 use Rattle.hd_base.specs.SumRules.{Rule}
-use Rattle.op_headers.specs.Values.{WriteFields}
-use Rattle.packet_codec.specs.declared.packets.Packet.{Packet}
-use Rattle.packet_stream.specs.Carried.{IsPiece}
+use Rattle.world.specs.OpHeaders.Values.{WriteFields}
+use Rattle.world.specs.PacketCodec.Packet.{Packet}
+use Rattle.world.specs.PacketStream.Carried.{IsPiece}
 use Rattle.replica_core.specs.declared.ack_queue.PendingPacket.{PendingPacket}
 use Rattle.replica_core.specs.declared.events.Event.TheVariants as event
 use Rattle.replica_core.specs.declared.extents.PacketExtent.{PacketExtent}
@@ -31,13 +31,13 @@ use Rattle.replica_core.specs.Sound.{Sound}
 use Rattle.replica_core.proofs.InfoLemmas.{present_is, reopen_is, recover_setup_is, recover_stream_is, begin_recovery_is, end_recovery_is, stream_after_is, stream_by_is, pending_of_is}
 use Rattle.replica_core.proofs.StepLemmas.{after_check, after_step, choice}
 use Rattle.replica_core.proofs.SoundLemmas.{info_in}
-use Rattle.replica_model.specs.declared.events.ReplicaEvent.{ReplicaEvent}
-use Rattle.replica_model.specs.declared.events.ReplicaEvent.TheVariants as replica_event
-use Rattle.replica_model.specs.Rows.{FullReplica, IsFull, row, event_at, brought, broken, bad_under}
-use Rattle.replica_model.specs.Found.{IsFront}
-use Rattle.member_core.specs.declared.requests.SetupKind.{SetupKind}
-use Rattle.member_core.specs.declared.requests.SetupKind.TheVariants as kind
-use Rattle.op_headers.specs.declared.ops.Op.TheVariants as op
+use Rattle.world.specs.ReplicaModel.ReplicaEvent.{ReplicaEvent}
+use Rattle.world.specs.ReplicaModel.ReplicaEvent.TheVariants as replica_event
+use Rattle.world.specs.ReplicaModel.Rows.{FullReplica, IsFull, row, event_at, brought, broken, bad_under}
+use Rattle.world.specs.ReplicaModel.Found.{IsFront}
+use Rattle.world.specs.MemberCore.SetupKind.{SetupKind}
+use Rattle.world.specs.MemberCore.SetupKind.TheVariants as kind
+use Rattle.world.specs.OpHeaders.Op.TheVariants as op
 use Rattle.world.specs.Parts.{request}
 use Rattle.world.specs.Worlds.{Past}
 use Rattle.world_laws.proofs.FactTables.{some-weaker}

@@ -4,34 +4,34 @@ use Rattle.std.specs.Prelude.{slice_get}
 use Rattle.std.proofs.lemmas.Option.{none-some, same_Some}
 use Rattle.hd_base.specs.declared.numbers.NodeId.{NodeId}
 use Rattle.hd_base.specs.declared.numbers.Stamp.{Stamp}
-use Rattle.ack_codec.specs.declared.acks.Ack.{Ack}
-use Rattle.ack_codec.specs.declared.responses.Response.{Response}
-use Rattle.packet_codec.specs.declared.packets.Packet.{Packet}
-use Rattle.packet_stream.specs.Carried.{IsPiece}
-use Rattle.packet_stream.specs.Streams.{StreamState, IsStream, written_in, with_bytes, next_packet, formed, sync_packet, sync_formed, last_packet, last_formed, acked_packet, oldest_acked, oldest_is_last, oldest_seqno}
-use Rattle.packet_stream.proofs.CarryLemmas.{wrote_carries, formed_carries, next_is_piece, acked_carries}
-use Rattle.writer_core.specs.declared.actions.Action.{Action}
-use Rattle.writer_core.specs.declared.actions.Action.TheVariants as action
-use Rattle.writer_core.specs.declared.commands.Command.{Command}
-use Rattle.writer_core.specs.declared.commands.Command.TheVariants as command
-use Rattle.writer_core.specs.declared.phases.DuePacket.{DuePacket}
-use Rattle.writer_core.specs.declared.phases.DuePacket.TheVariants as due
-use Rattle.writer_core.specs.declared.phases.Failure.{Failure}
-use Rattle.writer_core.specs.declared.phases.Phase.{Phase}
-use Rattle.writer_core.specs.declared.phases.Phase.TheVariants as phase
-use Rattle.writer_core.specs.declared.phases.Remedy.{Remedy}
-use Rattle.writer_core.specs.declared.phases.Remedy.TheVariants as remedy
-use Rattle.writer_core.specs.declared.phases.Setup.{Setup}
-use Rattle.writer_core.specs.declared.phases.Setup.TheVariants as setup
-use Rattle.writer_core.specs.declared.phases.Verdict.{Verdict}
-use Rattle.writer_core.specs.declared.phases.Verdict.TheVariants as verdict
-use Rattle.writer_core.specs.declared.phases.Waiting.{Waiting}
-use Rattle.writer_core.specs.declared.records.WriterRecord.{WriterRecord}
-use Rattle.writer_core.specs.Phases.{remedy_after, remedy_in, remedy_at_ack, is_success, ack_verdict, bad_place, without}
-use Rattle.writer_core.specs.Sound.{Sound}
-use Rattle.writer_core.specs.Transitions.{taken_as, take_first, free_step_as, failed_command, failed_first, failed_step_as, dial_step_as, open_step, completed_step, accepted_step, due_now, form_step, reached_length, reach_step_as, due_step, stream_step_as, step_in, own_step, dropped, fail_for, fail_named, fail_at, ended_as, ended, phase_acked, acked_as, acked_in, acked, setup_answered_in, setup_answered, dialled_in, dialled}
-use Rattle.writer_core.specs.Transitions as writer
-use Rattle.writer_core.proofs.DueLemmas.{IsDueNow, due_now_is}
+use Rattle.world.specs.AckCodec.Ack.{Ack}
+use Rattle.world.specs.AckCodec.Response.{Response}
+use Rattle.world.specs.PacketCodec.Packet.{Packet}
+use Rattle.world.specs.PacketStream.Carried.{IsPiece}
+use Rattle.world.specs.PacketStream.Streams.{StreamState, IsStream, written_in, with_bytes, next_packet, formed, sync_packet, sync_formed, last_packet, last_formed, acked_packet, oldest_acked, oldest_is_last, oldest_seqno}
+use Rattle.world.proofs.PacketStream.CarryLemmas.{wrote_carries, formed_carries, next_is_piece, acked_carries}
+use Rattle.world.specs.WriterCore.Action.{Action}
+use Rattle.world.specs.WriterCore.Action.TheVariants as action
+use Rattle.world.specs.WriterCore.Command.{Command}
+use Rattle.world.specs.WriterCore.Command.TheVariants as command
+use Rattle.world.specs.WriterCore.DuePacket.{DuePacket}
+use Rattle.world.specs.WriterCore.DuePacket.TheVariants as due
+use Rattle.world.specs.WriterCore.Failure.{Failure}
+use Rattle.world.specs.WriterCore.Phase.{Phase}
+use Rattle.world.specs.WriterCore.Phase.TheVariants as phase
+use Rattle.world.specs.WriterCore.Remedy.{Remedy}
+use Rattle.world.specs.WriterCore.Remedy.TheVariants as remedy
+use Rattle.world.specs.WriterCore.Setup.{Setup}
+use Rattle.world.specs.WriterCore.Setup.TheVariants as setup
+use Rattle.world.specs.WriterCore.Verdict.{Verdict}
+use Rattle.world.specs.WriterCore.Verdict.TheVariants as verdict
+use Rattle.world.specs.WriterCore.Waiting.{Waiting}
+use Rattle.world.specs.WriterCore.WriterRecord.{WriterRecord}
+use Rattle.world.specs.WriterCore.Phases.{remedy_after, remedy_in, remedy_at_ack, is_success, ack_verdict, bad_place, without}
+use Rattle.world.specs.WriterCore.Sound.{Sound}
+use Rattle.world.specs.WriterCore.Transitions.{taken_as, take_first, free_step_as, failed_command, failed_first, failed_step_as, dial_step_as, open_step, completed_step, accepted_step, due_now, form_step, reached_length, reach_step_as, due_step, stream_step_as, step_in, own_step, dropped, fail_for, fail_named, fail_at, ended_as, ended, phase_acked, acked_as, acked_in, acked, setup_answered_in, setup_answered, dialled_in, dialled}
+use Rattle.world.specs.WriterCore.Transitions as writer
+use Rattle.world.proofs.WriterCore.DueLemmas.{IsDueNow, due_now_is}
 use Rattle.world.specs.Worlds.{Past}
 use Rattle.world.specs.Connections.{Next, message, the_end}
 use Rattle.world.specs.Parts.{request, packet, ack, response, read_status, recovery_answer}

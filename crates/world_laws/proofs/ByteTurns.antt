@@ -3,26 +3,26 @@ use Rattle.std.proofs.Common.{◌≡◌, ℕ, ℤ, Bool, true, false, List, Opti
 use Rattle.std.specs.Prelude.{◌==◌}
 use Rattle.std.proofs.lemmas.Bool.{false≢true}
 use Rattle.hd_base.specs.declared.states.Status.{Status}
-use Rattle.ack_codec.specs.declared.responses.Response.{Response}
+use Rattle.world.specs.AckCodec.Response.{Response}
 use Rattle.replica_core.specs.declared.ack_queue.PendingPacket.{PendingPacket}
 use Rattle.replica_core.specs.declared.refusals.Refusal.{Refusal}
 use Rattle.replica_core.specs.declared.refusals.Refusal.TheVariants as refusal
-use Rattle.replica_model.specs.declared.events.ReplicaEvent.{ReplicaEvent}
-use Rattle.replica_model.specs.declared.events.ReplicaEvent.TheVariants as replica_event
-use Rattle.member_core.specs.declared.effects.Shuts.{Shuts}
-use Rattle.member_core.specs.declared.effects.Shuts.TheVariants as shuts
-use Rattle.member_core.specs.declared.inputs.FromAbove.TheVariants as above
-use Rattle.member_core.specs.declared.inputs.FromBelow.{FromBelow}
-use Rattle.member_core.specs.declared.inputs.FromBelow.TheVariants as below
-use Rattle.member_core.specs.declared.member.Mirror.{Mirror}
-use Rattle.member_core.specs.declared.member.Mirror.TheVariants as mirror
-use Rattle.member_core.specs.declared.turns.Booked.{Booked}
-use Rattle.member_core.specs.declared.turns.Booked.TheVariants as booked
-use Rattle.member_core.specs.declared.turns.Side.{Side}
-use Rattle.member_core.specs.declared.turns.Side.TheVariants as side
-use Rattle.member_core.specs.declared.turns.Turn.{Turn}
-use Rattle.member_core.specs.Acks.{is_success, failures, begins_with_bad_sum, is_read}
-use Rattle.member_core.specs.Members.{MemberState, down_turn, up_turn, up_at, setup_turn, answered_turn, accept_turn, fail_turn, stream_turn, ack_turn, pass_turn, failed_turn, good_turn, partial_turn, spoiled_turn, give_up_turn, named_bad, ready_turn, ready_at, quiet_turn, idle_turn, patient_turn, closed, closed_by, bad_sum, settled}
+use Rattle.world.specs.ReplicaModel.ReplicaEvent.{ReplicaEvent}
+use Rattle.world.specs.ReplicaModel.ReplicaEvent.TheVariants as replica_event
+use Rattle.world.specs.MemberCore.Shuts.{Shuts}
+use Rattle.world.specs.MemberCore.Shuts.TheVariants as shuts
+use Rattle.world.specs.MemberCore.FromAbove.TheVariants as above
+use Rattle.world.specs.MemberCore.FromBelow.{FromBelow}
+use Rattle.world.specs.MemberCore.FromBelow.TheVariants as below
+use Rattle.world.specs.MemberCore.Mirror.{Mirror}
+use Rattle.world.specs.MemberCore.Mirror.TheVariants as mirror
+use Rattle.world.specs.MemberCore.Booked.{Booked}
+use Rattle.world.specs.MemberCore.Booked.TheVariants as booked
+use Rattle.world.specs.MemberCore.Side.{Side}
+use Rattle.world.specs.MemberCore.Side.TheVariants as side
+use Rattle.world.specs.MemberCore.Turn.{Turn}
+use Rattle.world.specs.MemberCore.Acks.{is_success, failures, begins_with_bad_sum, is_read}
+use Rattle.world.specs.MemberCore.Members.{MemberState, down_turn, up_turn, up_at, setup_turn, answered_turn, accept_turn, fail_turn, stream_turn, ack_turn, pass_turn, failed_turn, good_turn, partial_turn, spoiled_turn, give_up_turn, named_bad, ready_turn, ready_at, quiet_turn, idle_turn, patient_turn, closed, closed_by, bad_sum, settled}
 use Rattle.world.specs.Worlds.{Past}
 use Rattle.world_laws.proofs.FactTables.{if-each}
 use Rattle.world_laws.specs.Stamping.{Givens}

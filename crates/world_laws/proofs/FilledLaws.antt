@@ -8,10 +8,10 @@ use Rattle.hd_base.specs.SumRules.{Rule, IsChunkSize}
 use Rattle.replica_core.specs.declared.info.ReplicaInfo.{ReplicaInfo}
 use Rattle.replica_core.specs.Info.{is_temporary}
 use Rattle.replica_core.proofs.SoundLemmas.{absent_sound, found_sound}
-use Rattle.replica_model.specs.Rows.{FullReplica, IsFull, row}
-use Rattle.replica_model.specs.Plans.{plan, has_changing}
-use Rattle.replica_model.specs.Found.{Found, found_as, found_whole, settled_state, IsWaiting, MayFindBetween, waits_old_before, waits_old_after, waits_new_before, waits_new_after, stays_final, becomes_final, cut_final, MayFindNew, MayFindReceived, MayFindChanged, MayFindAmid, MayFindWithin}
-use Rattle.replica_model.proofs.RowLemmas.{rows_keep_bytes}
+use Rattle.world.specs.ReplicaModel.Rows.{FullReplica, IsFull, row}
+use Rattle.world.specs.ReplicaModel.Plans.{plan, has_changing}
+use Rattle.world.specs.ReplicaModel.Found.{Found, found_as, found_whole, settled_state, IsWaiting, MayFindBetween, waits_old_before, waits_old_after, waits_new_before, waits_new_after, stays_final, becomes_final, cut_final, MayFindNew, MayFindReceived, MayFindChanged, MayFindAmid, MayFindWithin}
+use Rattle.world.proofs.ReplicaModel.RowLemmas.{rows_keep_bytes}
 use Rattle.world.specs.declared.events.Delivery.{Delivery}
 use Rattle.world.specs.declared.events.Delivery.TheVariants as delivery
 use Rattle.world.specs.declared.events.Direction.{Direction}

@@ -17,13 +17,13 @@ use Rattle.hd_base.specs.declared.sum_rule.SumKind.{SumKind}
 use Rattle.hd_base.specs.declared.sum_rule.SumKind.TheVariants as kind
 use Rattle.hd_base.specs.SumRules.{Rule, kind_number}
 use Rattle.hd_base.specs.Wire.{state_number}
-use Rattle.op_headers.specs.Answers.{state_with}
-use Rattle.request_refusals.specs.Rules.{kind_with}
+use Rattle.world.specs.OpHeaders.Answers.{state_with}
+use Rattle.world.specs.RequestRefusals.Rules.{kind_with}
 use Rattle.replica_core.specs.declared.info.ReplicaInfo.{ReplicaInfo}
 use Rattle.replica_core.specs.Info.{is_finalized, is_temporary}
-use Rattle.replica_model.specs.Rows.{FullReplica, row}
-use Rattle.replica_model.specs.Plans.{plan, has_changing}
-use Rattle.replica_model.specs.Found.{Found, found_as, IsFront, IsWaiting, found_whole, settled_state, MayFindBetween, waits_old_before, waits_old_after, waits_new_before, waits_new_after, stays_final, becomes_final, cut_final, MayFindNew, MayFindChanged, MayFindAmid, MayFindWithin}
+use Rattle.world.specs.ReplicaModel.Rows.{FullReplica, row}
+use Rattle.world.specs.ReplicaModel.Plans.{plan, has_changing}
+use Rattle.world.specs.ReplicaModel.Found.{Found, found_as, IsFront, IsWaiting, found_whole, settled_state, MayFindBetween, waits_old_before, waits_old_after, waits_new_before, waits_new_after, stays_final, becomes_final, cut_final, MayFindNew, MayFindChanged, MayFindAmid, MayFindWithin}
 use Rattle.world.specs.Parts.{Break}
 use Rattle.world.specs.Restarts.{same_rule, is_found, is_waiting, is_whole_as, is_whole, waits_between, final_between, is_found_new, is_found_changed, is_found_amid, is_found_within, may_find, replica_found, whole_found, restarted}
 use Rattle.world_laws.specs.Finding.{MayFindAt, IsFoundAt}

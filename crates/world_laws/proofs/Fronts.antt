@@ -2,9 +2,9 @@
 use Rattle.std.proofs.Common.{◌≡◌, ℕ, ◌<◌, ◌≤◌, ◌+◌, ◌-◌, List, [], ◌++◌, length, take, drop, nat_abs, refl, sym, ◌∙◌, ap, subst, arith, append_assoc, append-nil, length-append, length-drop}
 use Rattle.std.proofs.Math.Seq.{take-append_seam, take-add}
 use Rattle.std.proofs.lemmas.List.{take-append-drop, take-append-le, drop-append-le, drop-take, drop-drop, drop_all, length-take}
-use Rattle.packet_codec.specs.declared.packets.Packet.{Packet}
-use Rattle.packet_stream.specs.Carried.{IsPiece}
-use Rattle.replica_model.specs.Found.{IsFront}
+use Rattle.world.specs.PacketCodec.Packet.{Packet}
+use Rattle.world.specs.PacketStream.Carried.{IsPiece}
+use Rattle.world.specs.ReplicaModel.Found.{IsFront}
 use Rattle.world_laws.proofs.StampGivens.{low-high}
 
 pub front-refl : (xs : List ℕ) → IsFront xs xs

@@ -9,34 +9,34 @@ use Rattle.hd_base.specs.declared.sum_rule.SumKind.{SumKind}
 use Rattle.hd_base.specs.declared.sum_rule.TheConstants.{MIN_CHUNK_SIZE, MAX_CHUNK_SIZE}
 use Rattle.hd_base.specs.SumRules.{Rule, IsChunkSize, kind_number}
 use Rattle.hd_base.specs.Results.{◌>>=◌}
-use Rattle.ack_codec.specs.declared.responses.Response.{Response}
-use Rattle.op_headers.specs.Values.{WriteFields}
-use Rattle.op_headers.specs.declared.ops.RecoveryKind.{RecoveryKind}
-use Rattle.op_headers.specs.declared.ops.RecoveryKind.TheVariants as kind
-use Rattle.op_headers.specs.declared.ops.RecoveryOp.{RecoveryOp}
+use Rattle.world.specs.AckCodec.Response.{Response}
+use Rattle.world.specs.OpHeaders.Values.{WriteFields}
+use Rattle.world.specs.OpHeaders.RecoveryKind.{RecoveryKind}
+use Rattle.world.specs.OpHeaders.RecoveryKind.TheVariants as kind
+use Rattle.world.specs.OpHeaders.RecoveryOp.{RecoveryOp}
 use Rattle.replica_core.specs.declared.ack_queue.PendingPacket.{PendingPacket}
 use Rattle.replica_core.specs.declared.events.Event.{Event}
 use Rattle.replica_core.specs.declared.events.Event.TheVariants as event
-use Rattle.replica_model.specs.Rows.{IsOther, IsWithBytes}
-use Rattle.request_refusals.specs.declared.refusals.RequestRefusal.{RequestRefusal}
-use Rattle.request_refusals.specs.declared.refusals.RequestRefusal.TheVariants as refusal
-use Rattle.request_refusals.specs.Pools.{is_in_pool}
-use Rattle.request_refusals.specs.Rules.{kind_with, rule_of_kind, rule_with}
-use Rattle.member_core.specs.declared.inputs.FromAbove.{FromAbove}
-use Rattle.member_core.specs.declared.inputs.FromAbove.TheVariants as above
-use Rattle.member_core.specs.declared.inputs.FromBelow.{FromBelow}
-use Rattle.member_core.specs.declared.inputs.FromBelow.TheVariants as below
-use Rattle.member_core.specs.declared.member.Mirror.{Mirror}
-use Rattle.member_core.specs.declared.member.Mirror.TheVariants as mirror
-use Rattle.member_core.specs.declared.requests.SetupKind.{SetupKind}
-use Rattle.member_core.specs.declared.requests.SetupKind.TheVariants as setup
-use Rattle.member_core.specs.declared.requests.TheConstants.{MAX_BELOW}
-use Rattle.member_core.specs.declared.turns.Turn.{Turn}
-use Rattle.member_core.specs.Acks.{is_success, failures, begins_with_bad_sum, is_read}
-use Rattle.member_core.specs.Members.{MemberState, down_turn, up_turn, up_at, setup_turn, answered_turn, accept_turn, fail_turn, stream_turn, ack_turn, pass_turn, failed_turn, good_turn, partial_turn, spoiled_turn, give_up_turn, named_bad, ready_turn, ready_at, quiet_turn, idle_turn, patient_turn}
-use Rattle.member_core.specs.Requests.{setup_with, unless_other, fitting, rule_for, named_setup, named_rule, setup_event, request_event}
-use Rattle.recovery_core.specs.declared.members.RecoveryReply.{RecoveryReply}
-use Rattle.recovery_core.specs.Members.{step_event, recovery_event}
+use Rattle.world.specs.ReplicaModel.Rows.{IsOther, IsWithBytes}
+use Rattle.world.specs.RequestRefusals.RequestRefusal.{RequestRefusal}
+use Rattle.world.specs.RequestRefusals.RequestRefusal.TheVariants as refusal
+use Rattle.world.specs.RequestRefusals.Pools.{is_in_pool}
+use Rattle.world.specs.RequestRefusals.Rules.{kind_with, rule_of_kind, rule_with}
+use Rattle.world.specs.MemberCore.FromAbove.{FromAbove}
+use Rattle.world.specs.MemberCore.FromAbove.TheVariants as above
+use Rattle.world.specs.MemberCore.FromBelow.{FromBelow}
+use Rattle.world.specs.MemberCore.FromBelow.TheVariants as below
+use Rattle.world.specs.MemberCore.Mirror.{Mirror}
+use Rattle.world.specs.MemberCore.Mirror.TheVariants as mirror
+use Rattle.world.specs.MemberCore.SetupKind.{SetupKind}
+use Rattle.world.specs.MemberCore.SetupKind.TheVariants as setup
+use Rattle.world.specs.MemberCore.TheConstants.{MAX_BELOW}
+use Rattle.world.specs.MemberCore.Turn.{Turn}
+use Rattle.world.specs.MemberCore.Acks.{is_success, failures, begins_with_bad_sum, is_read}
+use Rattle.world.specs.MemberCore.Members.{MemberState, down_turn, up_turn, up_at, setup_turn, answered_turn, accept_turn, fail_turn, stream_turn, ack_turn, pass_turn, failed_turn, good_turn, partial_turn, spoiled_turn, give_up_turn, named_bad, ready_turn, ready_at, quiet_turn, idle_turn, patient_turn}
+use Rattle.world.specs.MemberCore.Requests.{setup_with, unless_other, fitting, rule_for, named_setup, named_rule, setup_event, request_event}
+use Rattle.world.specs.RecoveryCore.RecoveryReply.{RecoveryReply}
+use Rattle.world.specs.RecoveryCore.Members.{step_event, recovery_event}
 use Rattle.world_laws.proofs.FactTables.{if-each}
 
 -- TURNS

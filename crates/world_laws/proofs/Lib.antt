@@ -55,3 +55,8 @@ pub mod SetupLowers
 pub mod SetupRestarting
 pub mod AllSetUp
 pub mod SetupLaws
+pub mod AckCodec
+pub mod ChunkSums
+pub mod PacketCodec
+pub mod PacketStream
+pub mod WriterCore

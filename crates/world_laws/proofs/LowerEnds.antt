@@ -1,21 +1,21 @@
 -- What the lower ends of connections leave in range.
 use Rattle.std.proofs.Common.{ℕ, ◌<◌, ◌+◌, Bool, true, false, List, [], Option, Some, None, IfSome, Result, Ok, Err, refl, arith}
-use Rattle.op_headers.specs.declared.ops.Op.{Op}
-use Rattle.op_headers.specs.declared.ops.Op.TheVariants as op
-use Rattle.op_headers.specs.declared.ops.ReadOp.{ReadOp}
-use Rattle.op_headers.specs.declared.ops.RecoveryOp.{RecoveryOp}
-use Rattle.packet_codec.specs.declared.packets.Packet.{Packet}
+use Rattle.world.specs.OpHeaders.Op.{Op}
+use Rattle.world.specs.OpHeaders.Op.TheVariants as op
+use Rattle.world.specs.OpHeaders.ReadOp.{ReadOp}
+use Rattle.world.specs.OpHeaders.RecoveryOp.{RecoveryOp}
+use Rattle.world.specs.PacketCodec.Packet.{Packet}
 use Rattle.replica_core.specs.declared.events.Event.{Event}
-use Rattle.replica_model.specs.declared.events.ReplicaEvent.{ReplicaEvent}
-use Rattle.replica_model.specs.declared.events.ReplicaEvent.TheVariants as replica_event
-use Rattle.request_refusals.specs.declared.refusals.RequestRefusal.{RequestRefusal}
-use Rattle.member_core.specs.declared.turns.Turn.{Turn}
-use Rattle.member_core.specs.Members.{down_turn, up_turn, hears}
-use Rattle.member_core.specs.Steps.{step, faulted_step, oldest_at, ready_turn_at}
-use Rattle.replica_model.specs.Rows.{FullReplica}
-use Rattle.read_core.specs.Servings.{faulted_read, faulted_piece, ServingState, read_at, read_event, next_call, piece_at}
-use Rattle.recovery_core.specs.declared.members.RecoveryReply.{RecoveryReply}
-use Rattle.recovery_core.specs.Members.{Served, recovery_event, serve, serve_faulted}
+use Rattle.world.specs.ReplicaModel.ReplicaEvent.{ReplicaEvent}
+use Rattle.world.specs.ReplicaModel.ReplicaEvent.TheVariants as replica_event
+use Rattle.world.specs.RequestRefusals.RequestRefusal.{RequestRefusal}
+use Rattle.world.specs.MemberCore.Turn.{Turn}
+use Rattle.world.specs.MemberCore.Members.{down_turn, up_turn, hears}
+use Rattle.world.specs.MemberCore.Steps.{step, faulted_step, oldest_at, ready_turn_at}
+use Rattle.world.specs.ReplicaModel.Rows.{FullReplica}
+use Rattle.world.specs.ReadCore.Servings.{faulted_read, faulted_piece, ServingState, read_at, read_event, next_call, piece_at}
+use Rattle.world.specs.RecoveryCore.RecoveryReply.{RecoveryReply}
+use Rattle.world.specs.RecoveryCore.Members.{Served, recovery_event, serve, serve_faulted}
 use Rattle.world.specs.Parts.{Message, request, packet, ack, response, read_status, recovery_answer, FullMember, Lower, idle, writes, serves, recovers, ended_below, Break}
 use Rattle.world.specs.Worlds.{World, still}
 use Rattle.world.specs.Connections.{Next, message, the_end, sent_on, is_alive}

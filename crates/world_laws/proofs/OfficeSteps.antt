@@ -6,7 +6,7 @@ use Rattle.std.specs.BTreeMap.{is_at}
 use Rattle.hd_base.specs.declared.numbers.BlockId.{BlockId}
 use Rattle.hd_base.specs.declared.numbers.NodeId.{NodeId}
 use Rattle.hd_base.specs.declared.numbers.Stamp.{Stamp}
-use Rattle.packet_codec.specs.declared.packets.Packet.{Packet}
+use Rattle.world.specs.PacketCodec.Packet.{Packet}
 use Rattle.name_core.specs.declared.calls.OfficeAnswer.{OfficeAnswer}
 use Rattle.name_core.specs.declared.calls.OfficeAnswer.TheVariants as office
 use Rattle.name_core.specs.declared.calls.OfficeCall.{OfficeCall}
@@ -21,21 +21,21 @@ use Rattle.name_core.specs.Records.{is_stamp, opened}
 use Rattle.name_core.specs.Offices.{OfficeState, block_order, record_of, stamp_given, with_record, with_new_record, office_case}
 use Rattle.name_core.proofs.BlockLemmas.{same_or_other, record_of-with_record_same, record_of-with_record_other, record_of-with_new_record_same, record_of-with_new_record_other}
 use Rattle.name_core.proofs.CaseLemmas.{each_case}
-use Rattle.writer_core.specs.declared.actions.Action.{Action}
-use Rattle.writer_core.specs.declared.actions.Action.TheVariants as action
-use Rattle.writer_core.specs.declared.commands.Command.{Command}
-use Rattle.writer_core.specs.declared.commands.Command.TheVariants as command
-use Rattle.writer_core.specs.declared.phases.DuePacket.{DuePacket}
-use Rattle.writer_core.specs.declared.phases.DuePacket.TheVariants as due
-use Rattle.writer_core.specs.declared.phases.Failure.{Failure}
-use Rattle.writer_core.specs.declared.phases.Phase.{Phase}
-use Rattle.writer_core.specs.declared.phases.Phase.TheVariants as phase
-use Rattle.writer_core.specs.declared.phases.Setup.{Setup}
-use Rattle.writer_core.specs.declared.phases.Setup.TheVariants as setup
-use Rattle.writer_core.specs.declared.phases.Waiting.{Waiting}
-use Rattle.writer_core.specs.declared.records.WriterRecord.{WriterRecord}
-use Rattle.writer_core.specs.Transitions.{take_first, free_step_as, failed_first, failed_command, failed_step_as, stamp_call, dial_step_as, accepted_step, form_step, reach_step_as, reached_length, due_step, due_now, stream_step_as, step_in, own_step, stamped, reopened, begin_session, committed_as, commit_given, complete_given, granted, granted_in, granted_as, refused, asks}
-use Rattle.writer_core.specs.Transitions as writer
+use Rattle.world.specs.WriterCore.Action.{Action}
+use Rattle.world.specs.WriterCore.Action.TheVariants as action
+use Rattle.world.specs.WriterCore.Command.{Command}
+use Rattle.world.specs.WriterCore.Command.TheVariants as command
+use Rattle.world.specs.WriterCore.DuePacket.{DuePacket}
+use Rattle.world.specs.WriterCore.DuePacket.TheVariants as due
+use Rattle.world.specs.WriterCore.Failure.{Failure}
+use Rattle.world.specs.WriterCore.Phase.{Phase}
+use Rattle.world.specs.WriterCore.Phase.TheVariants as phase
+use Rattle.world.specs.WriterCore.Setup.{Setup}
+use Rattle.world.specs.WriterCore.Setup.TheVariants as setup
+use Rattle.world.specs.WriterCore.Waiting.{Waiting}
+use Rattle.world.specs.WriterCore.WriterRecord.{WriterRecord}
+use Rattle.world.specs.WriterCore.Transitions.{take_first, free_step_as, failed_first, failed_command, failed_step_as, stamp_call, dial_step_as, accepted_step, form_step, reach_step_as, reached_length, due_step, due_now, stream_step_as, step_in, own_step, stamped, reopened, begin_session, committed_as, commit_given, complete_given, granted, granted_in, granted_as, refused, asks}
+use Rattle.world.specs.WriterCore.Transitions as writer
 use Rattle.world_laws.specs.Sessions.{IsCommitted}
 use Rattle.world_laws.proofs.WriterSteps.{Same, same}
 

@@ -1,9 +1,9 @@
 -- What each kind of change leaves in range.
 use Rattle.std.proofs.Common.{◌≡◌, ℕ, ◌<◌, ◌≤◌, ◌+◌, false, [], slice_get, Option, Some, refl, arith}
 use Rattle.std.proofs.lemmas.Option.{none-some}
-use Rattle.member_core.specs.declared.effects.Shuts.{Shuts}
-use Rattle.member_core.specs.declared.effects.Shuts.TheVariants as shuts
-use Rattle.member_core.specs.Steps.{Step}
+use Rattle.world.specs.MemberCore.Shuts.{Shuts}
+use Rattle.world.specs.MemberCore.Shuts.TheVariants as shuts
+use Rattle.world.specs.MemberCore.Steps.{Step}
 use Rattle.world.specs.Parts.{FullMember, idle, Break}
 use Rattle.world.specs.Worlds.{World, Dial, still}
 use Rattle.world.specs.Connections.{Next}

@@ -4,18 +4,18 @@ use Rattle.std.specs.Prelude.{◌==◌, ◌&&◌, is_some, if◌then◌else◌}
 use Rattle.std.proofs.lemmas.Option.{none-some, same_Some}
 use Rattle.std.proofs.lemmas.Bool.{false≢true}
 use Rattle.hd_base.specs.declared.numbers.ConnId.{ConnId}
-use Rattle.op_headers.specs.Values.{WriteFields}
-use Rattle.node_refs.specs.NodeRefs.{ref_of}
+use Rattle.world.specs.OpHeaders.Values.{WriteFields}
+use Rattle.world.specs.NodeRefs.NodeRefs.{ref_of}
 use Rattle.replica_core.specs.declared.events.Event.{Event}
-use Rattle.replica_model.specs.declared.events.ReplicaEvent.TheVariants as replica_event
-use Rattle.replica_model.specs.Rows.{FullReplica, row, row_answer}
-use Rattle.request_refusals.specs.declared.refusals.RequestRefusal.{RequestRefusal}
+use Rattle.world.specs.ReplicaModel.ReplicaEvent.TheVariants as replica_event
+use Rattle.world.specs.ReplicaModel.Rows.{FullReplica, row, row_answer}
+use Rattle.world.specs.RequestRefusals.RequestRefusal.{RequestRefusal}
 use Rattle.replica_core.specs.Views.{rule_in}
-use Rattle.member_core.specs.declared.member.Mirror.{Mirror}
-use Rattle.member_core.specs.declared.member.Mirror.TheVariants as mirror
-use Rattle.member_core.specs.Members.{MemberState, mirror_for, set_up_at, set_up}
-use Rattle.member_core.specs.Requests.{request_event, mirror_request}
-use Rattle.member_core.specs.Steps.{Setup, request_step, request_at, booked_request, refused_by, faulted_request}
+use Rattle.world.specs.MemberCore.Mirror.{Mirror}
+use Rattle.world.specs.MemberCore.Mirror.TheVariants as mirror
+use Rattle.world.specs.MemberCore.Members.{MemberState, mirror_for, set_up_at, set_up}
+use Rattle.world.specs.MemberCore.Requests.{request_event, mirror_request}
+use Rattle.world.specs.MemberCore.Steps.{Setup, request_step, request_at, booked_request, refused_by, faulted_request}
 use Rattle.world.specs.Parts.{Break}
 use Rattle.world.specs.Worlds.{World, Dial}
 use Rattle.world.specs.Nodes.{node_of, replica_at, block_of, runs_there, mirror_node, is_asked, mirror_dial, dials_of, member_dials, mirror_conn, lower_of, setup_change, write_request, failing_write}

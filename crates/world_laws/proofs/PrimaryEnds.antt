@@ -10,14 +10,14 @@ use Rattle.name_core.specs.declared.calls.OfficeCall.{OfficeCall}
 use Rattle.name_core.specs.declared.calls.OfficeCall.TheVariants as call
 use Rattle.name_core.specs.declared.choice.Chosen.{Chosen}
 use Rattle.name_core.specs.Offices.{answer_to}
-use Rattle.writer_core.specs.declared.actions.Action.{Action}
-use Rattle.writer_core.specs.declared.actions.Action.TheVariants as action
-use Rattle.writer_core.specs.Transitions as writer
-use Rattle.recovery_core.specs.declared.primary.OwnStep.{OwnStep}
-use Rattle.recovery_core.specs.declared.primary.OwnStep.TheVariants as own
-use Rattle.recovery_core.specs.declared.primary.Recovered.{Recovered}
-use Rattle.recovery_core.specs.declared.standings.Standing.{Standing}
-use Rattle.recovery_core.specs.Primaries.{PrimaryState, begun_with, own_step, sync_call, is_among, is_awaited, office_refused, heard_at, shuts_at}
+use Rattle.world.specs.WriterCore.Action.{Action}
+use Rattle.world.specs.WriterCore.Action.TheVariants as action
+use Rattle.world.specs.WriterCore.Transitions as writer
+use Rattle.world.specs.RecoveryCore.OwnStep.{OwnStep}
+use Rattle.world.specs.RecoveryCore.OwnStep.TheVariants as own
+use Rattle.world.specs.RecoveryCore.Recovered.{Recovered}
+use Rattle.world.specs.RecoveryCore.Standing.{Standing}
+use Rattle.world.specs.RecoveryCore.Primaries.{PrimaryState, begun_with, own_step, sync_call, is_among, is_awaited, office_refused, heard_at, shuts_at}
 use Rattle.world.specs.declared.events.Caller.{Caller}
 use Rattle.world.specs.declared.events.Caller.TheVariants as caller
 use Rattle.world.specs.Parts.{Message, Place, Told, Leading, Primary, no_primary, was_told, leads, has_led}

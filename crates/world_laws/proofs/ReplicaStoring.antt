@@ -1,33 +1,33 @@
 -- What lower ends make of replicas.
 use Rattle.std.proofs.Common.{ℕ, Bool, true, false, List, [], Option, Some, None, IfSome, Result, Ok, Err, ◌∙◌}
 use Rattle.hd_base.specs.declared.numbers.ConnId.{ConnId}
-use Rattle.op_headers.specs.declared.ops.Op.{Op}
-use Rattle.op_headers.specs.declared.ops.Op.TheVariants as op
-use Rattle.op_headers.specs.declared.ops.ReadOp.{ReadOp}
-use Rattle.op_headers.specs.declared.ops.RecoveryOp.{RecoveryOp}
-use Rattle.op_headers.specs.Values.{WriteFields}
-use Rattle.packet_codec.specs.declared.packets.Packet.{Packet}
+use Rattle.world.specs.OpHeaders.Op.{Op}
+use Rattle.world.specs.OpHeaders.Op.TheVariants as op
+use Rattle.world.specs.OpHeaders.ReadOp.{ReadOp}
+use Rattle.world.specs.OpHeaders.RecoveryOp.{RecoveryOp}
+use Rattle.world.specs.OpHeaders.Values.{WriteFields}
+use Rattle.world.specs.PacketCodec.Packet.{Packet}
 use Rattle.replica_core.specs.declared.events.Event.{Event}
 use Rattle.replica_core.specs.declared.events.Event.TheVariants as event
 use Rattle.replica_core.specs.Views.{rule_in}
-use Rattle.replica_model.specs.declared.events.ReplicaEvent.{ReplicaEvent}
-use Rattle.replica_model.specs.declared.events.ReplicaEvent.TheVariants as replica_event
-use Rattle.replica_model.specs.Rows.{FullReplica, IsFull, IsOther, IsWithBytes, row, row_answer, broken, event_at}
-use Rattle.replica_model.proofs.RowLemmas.{rows_keep_bytes}
-use Rattle.replica_model.proofs.BlockLemmas.{block_kept}
-use Rattle.request_refusals.specs.declared.refusals.RequestRefusal.{RequestRefusal}
-use Rattle.request_refusals.specs.declared.refusals.RequestRefusal.TheVariants as refusal
-use Rattle.request_refusals.specs.Pools.{is_in_pool}
-use Rattle.member_core.specs.declared.turns.Turn.{Turn}
-use Rattle.member_core.specs.Members.{down_turn, up_turn, hears}
-use Rattle.member_core.specs.Requests.{request_event}
-use Rattle.member_core.specs.Steps.{replica_after, request_at, booked_request, refused_by, oldest_at, ready_turn_at}
+use Rattle.world.specs.ReplicaModel.ReplicaEvent.{ReplicaEvent}
+use Rattle.world.specs.ReplicaModel.ReplicaEvent.TheVariants as replica_event
+use Rattle.world.specs.ReplicaModel.Rows.{FullReplica, IsFull, IsOther, IsWithBytes, row, row_answer, broken, event_at}
+use Rattle.world.proofs.ReplicaModel.RowLemmas.{rows_keep_bytes}
+use Rattle.world.proofs.ReplicaModel.BlockLemmas.{block_kept}
+use Rattle.world.specs.RequestRefusals.RequestRefusal.{RequestRefusal}
+use Rattle.world.specs.RequestRefusals.RequestRefusal.TheVariants as refusal
+use Rattle.world.specs.RequestRefusals.Pools.{is_in_pool}
+use Rattle.world.specs.MemberCore.Turn.{Turn}
+use Rattle.world.specs.MemberCore.Members.{down_turn, up_turn, hears}
+use Rattle.world.specs.MemberCore.Requests.{request_event}
+use Rattle.world.specs.MemberCore.Steps.{replica_after, request_at, booked_request, refused_by, oldest_at, ready_turn_at}
 use Rattle.replica_core.specs.Transitions.{is_written_by}
-use Rattle.read_core.specs.Servings.{ServingState, read_at, read_event, next_call, call_at, piece_at}
-use Rattle.read_core.specs.declared.serving.ServePhase.{ServePhase}
-use Rattle.read_core.specs.declared.serving.ServePhase.TheVariants as serve_phase
-use Rattle.recovery_core.specs.declared.members.RecoveryReply.{RecoveryReply}
-use Rattle.recovery_core.specs.Members.{recovery_event, served_as}
+use Rattle.world.specs.ReadCore.Servings.{ServingState, read_at, read_event, next_call, call_at, piece_at}
+use Rattle.world.specs.ReadCore.ServePhase.{ServePhase}
+use Rattle.world.specs.ReadCore.ServePhase.TheVariants as serve_phase
+use Rattle.world.specs.RecoveryCore.RecoveryReply.{RecoveryReply}
+use Rattle.world.specs.RecoveryCore.Members.{recovery_event, served_as}
 use Rattle.world.specs.Parts.{Message, request, packet, ack, response, read_status, recovery_answer, FullMember, Lower, idle, writes, serves, recovers, ended_below, Break}
 use Rattle.world.specs.Worlds.{World, Change}
 use Rattle.world.specs.Connections.{Next, message, the_end, is_alive}

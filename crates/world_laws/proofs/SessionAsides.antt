@@ -2,29 +2,29 @@
 use Rattle.std.proofs.Common.{◌≡◌}
 use Rattle.world.specs.Nodes.{member_change}
 use Rattle.std.proofs.Common.{ℕ, Bool, true, false, List, [], Option, Some, None, IfSome, Result, Ok, Err, refl}
-use Rattle.op_headers.specs.declared.ops.Op.{Op}
-use Rattle.op_headers.specs.declared.ops.Op.TheVariants as op
-use Rattle.op_headers.specs.declared.ops.ReadOp.{ReadOp}
-use Rattle.op_headers.specs.declared.ops.RecoveryOp.{RecoveryOp}
-use Rattle.packet_codec.specs.declared.packets.Packet.{Packet}
+use Rattle.world.specs.OpHeaders.Op.{Op}
+use Rattle.world.specs.OpHeaders.Op.TheVariants as op
+use Rattle.world.specs.OpHeaders.ReadOp.{ReadOp}
+use Rattle.world.specs.OpHeaders.RecoveryOp.{RecoveryOp}
+use Rattle.world.specs.PacketCodec.Packet.{Packet}
 use Rattle.replica_core.specs.declared.events.Event.{Event}
-use Rattle.replica_model.specs.declared.events.ReplicaEvent.{ReplicaEvent}
-use Rattle.replica_model.specs.declared.events.ReplicaEvent.TheVariants as replica_event
-use Rattle.request_refusals.specs.declared.refusals.RequestRefusal.{RequestRefusal}
-use Rattle.member_core.specs.declared.turns.Turn.{Turn}
-use Rattle.member_core.specs.Members.{down_turn, up_turn, hears}
-use Rattle.member_core.specs.Steps.{step, faulted_step, oldest_at, ready_turn_at}
-use Rattle.replica_model.specs.Rows.{FullReplica}
-use Rattle.read_core.specs.Servings.{faulted_read, faulted_piece, ServingState, read_at, read_event, next_call, piece_at}
-use Rattle.recovery_core.specs.declared.members.RecoveryReply.{RecoveryReply}
-use Rattle.recovery_core.specs.Members.{Served, recovery_event, serve, serve_faulted}
+use Rattle.world.specs.ReplicaModel.ReplicaEvent.{ReplicaEvent}
+use Rattle.world.specs.ReplicaModel.ReplicaEvent.TheVariants as replica_event
+use Rattle.world.specs.RequestRefusals.RequestRefusal.{RequestRefusal}
+use Rattle.world.specs.MemberCore.Turn.{Turn}
+use Rattle.world.specs.MemberCore.Members.{down_turn, up_turn, hears}
+use Rattle.world.specs.MemberCore.Steps.{step, faulted_step, oldest_at, ready_turn_at}
+use Rattle.world.specs.ReplicaModel.Rows.{FullReplica}
+use Rattle.world.specs.ReadCore.Servings.{faulted_read, faulted_piece, ServingState, read_at, read_event, next_call, piece_at}
+use Rattle.world.specs.RecoveryCore.RecoveryReply.{RecoveryReply}
+use Rattle.world.specs.RecoveryCore.Members.{Served, recovery_event, serve, serve_faulted}
 use Rattle.world.specs.Parts.{Message, request, packet, ack, response, read_status, recovery_answer, FullMember, Lower, idle, writes, serves, recovers, ended_below, Break}
 use Rattle.world.specs.Worlds.{World, still}
 use Rattle.world.specs.Connections.{Next, message, the_end, sent_on, is_alive}
 use Rattle.world.specs.Nodes.{replica_at, block_of, closing, unless_failing, above_of, below_of, failing_turn, turn_change, takes_next, pending_at, member_down, member_up, ready_change, breaking, read_change, failing_read, read_request, piece_as, serve_change, recovery_change, failing_recovery, recovery_request, first_message, next_recovery, lower_down, lower_ready, mirror_up}
-use Rattle.op_headers.specs.Values.{WriteFields}
-use Rattle.member_core.specs.Requests.{request_event}
-use Rattle.member_core.specs.Steps.{Step, Setup, request_step, faulted_request}
+use Rattle.world.specs.OpHeaders.Values.{WriteFields}
+use Rattle.world.specs.MemberCore.Requests.{request_event}
+use Rattle.world.specs.MemberCore.Steps.{Step, Setup, request_step, faulted_request}
 use Rattle.std.specs.Prelude.{◌==◌, ◌&&◌, is_none, slice_get}
 use Rattle.world.specs.Connections.{place_of}
 use Rattle.world.specs.Worlds.{Change}
@@ -32,13 +32,13 @@ use Rattle.replica_core.specs.Views.{rule_in}
 use Rattle.name_core.specs.declared.calls.OfficeAnswer.TheVariants as office
 use Rattle.hd_base.specs.declared.numbers.BlockId.{BlockId}
 use Rattle.hd_base.specs.declared.numbers.NodeId.{NodeId}
-use Rattle.read_core.specs.declared.reading.ReadTurn.{ReadTurn}
-use Rattle.read_core.specs.declared.reading.ReadTurn.TheVariants as turn
-use Rattle.read_core.specs.Readings.{ReadTaken, take_from}
-use Rattle.recovery_core.specs.declared.primary.OwnStep.{OwnStep}
-use Rattle.recovery_core.specs.declared.primary.OwnStep.TheVariants as own
-use Rattle.recovery_core.specs.declared.standings.Standing.{Standing}
-use Rattle.recovery_core.specs.Primaries.{PrimaryState, own_step}
+use Rattle.world.specs.ReadCore.ReadTurn.{ReadTurn}
+use Rattle.world.specs.ReadCore.ReadTurn.TheVariants as turn
+use Rattle.world.specs.ReadCore.Readings.{ReadTaken, take_from}
+use Rattle.world.specs.RecoveryCore.OwnStep.{OwnStep}
+use Rattle.world.specs.RecoveryCore.OwnStep.TheVariants as own
+use Rattle.world.specs.RecoveryCore.Standing.{Standing}
+use Rattle.world.specs.RecoveryCore.Primaries.{PrimaryState, own_step}
 use Rattle.world.specs.Parts.{Place, Told, Reader, no_reader, reads, has_read, Leading, Primary, no_primary, was_told, leads, has_led}
 use Rattle.world.specs.Clients.{are_members, reader_dials, own_reader_as, own_reader, from_node_of, reader_turn, reader_up_as, reader_up}
 use Rattle.world.specs.Primaries.{begins_as, begins_at, own_recover, leads_step, commits_step, leads_told, own_primary_as, own_primary, listens, hears_change, primary_up_as, primary_up}

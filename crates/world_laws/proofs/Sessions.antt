@@ -9,13 +9,13 @@ use Rattle.name_core.specs.declared.faults.OfficeFault.{OfficeFault}
 use Rattle.name_core.specs.Steps.{Step, state_after, reply}
 use Rattle.name_core.specs.Offices.{OfficeState, office_case}
 use Rattle.name_core.proofs.CaseLemmas.{each_case}
-use Rattle.writer_core.specs.declared.actions.Action.{Action}
-use Rattle.writer_core.specs.declared.actions.Action.TheVariants as action
-use Rattle.writer_core.specs.Transitions as writer
-use Rattle.recovery_core.specs.declared.primary.OwnStep.{OwnStep}
-use Rattle.recovery_core.specs.declared.primary.OwnStep.TheVariants as step
-use Rattle.recovery_core.specs.Primaries.{sync_call}
-use Rattle.recovery_core.specs.Primaries as primary
+use Rattle.world.specs.WriterCore.Action.{Action}
+use Rattle.world.specs.WriterCore.Action.TheVariants as action
+use Rattle.world.specs.WriterCore.Transitions as writer
+use Rattle.world.specs.RecoveryCore.OwnStep.{OwnStep}
+use Rattle.world.specs.RecoveryCore.OwnStep.TheVariants as step
+use Rattle.world.specs.RecoveryCore.Primaries.{sync_call}
+use Rattle.world.specs.RecoveryCore.Primaries as primary
 use Rattle.world.specs.declared.events.Caller.{Caller}
 use Rattle.world.specs.declared.events.Caller.TheVariants as caller
 use Rattle.world.specs.declared.events.Delivery.{Delivery}

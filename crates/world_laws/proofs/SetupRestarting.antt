@@ -9,9 +9,9 @@ use Rattle.hd_base.specs.declared.states.ReplicaState.TheVariants as state
 use Rattle.hd_base.specs.SumRules.{Rule}
 use Rattle.replica_core.specs.declared.info.ReplicaInfo.{ReplicaInfo}
 use Rattle.replica_core.specs.Info.{is_temporary}
-use Rattle.replica_model.specs.Rows.{FullReplica, row}
-use Rattle.replica_model.specs.Plans.{plan, has_changing}
-use Rattle.replica_model.specs.Found.{Found, found_as, found_whole, settled_state, MayFindBetween, waits_old_before, waits_old_after, waits_new_before, waits_new_after, stays_final, becomes_final, cut_final, MayFindNew, MayFindChanged, MayFindAmid, MayFindWithin}
+use Rattle.world.specs.ReplicaModel.Rows.{FullReplica, row}
+use Rattle.world.specs.ReplicaModel.Plans.{plan, has_changing}
+use Rattle.world.specs.ReplicaModel.Found.{Found, found_as, found_whole, settled_state, MayFindBetween, waits_old_before, waits_old_after, waits_new_before, waits_new_after, stays_final, becomes_final, cut_final, MayFindNew, MayFindChanged, MayFindAmid, MayFindWithin}
 use Rattle.world.specs.declared.events.FoundReplica.{FoundReplica}
 use Rattle.world.specs.Parts.{Break}
 use Rattle.world.specs.Worlds.{World}

@@ -4,24 +4,24 @@ use Rattle.hd_base.specs.declared.numbers.NodeId.{NodeId}
 use Rattle.hd_base.specs.declared.numbers.Stamp.{Stamp}
 use Rattle.name_core.specs.declared.records.BlockRecord.{BlockRecord}
 use Rattle.name_core.specs.Offices.{record_of}
-use Rattle.packet_codec.specs.declared.packets.Packet.{Packet}
-use Rattle.writer_core.specs.declared.actions.Action.{Action}
-use Rattle.writer_core.specs.declared.actions.Action.TheVariants as action
-use Rattle.writer_core.specs.declared.actions.ClientAnswer.{ClientAnswer}
-use Rattle.writer_core.specs.declared.actions.ClientAnswer.TheVariants as answer
-use Rattle.writer_core.specs.declared.commands.Command.{Command}
-use Rattle.writer_core.specs.declared.commands.Command.TheVariants as command
-use Rattle.writer_core.specs.declared.phases.DuePacket.{DuePacket}
-use Rattle.writer_core.specs.declared.phases.DuePacket.TheVariants as due
-use Rattle.writer_core.specs.declared.phases.Failure.{Failure}
-use Rattle.writer_core.specs.declared.phases.Failure.TheVariants as failure
-use Rattle.writer_core.specs.declared.phases.Phase.{Phase}
-use Rattle.writer_core.specs.declared.phases.Phase.TheVariants as phase
-use Rattle.writer_core.specs.declared.phases.Setup.{Setup}
-use Rattle.writer_core.specs.declared.phases.Setup.TheVariants as setup
-use Rattle.writer_core.specs.declared.phases.Waiting.{Waiting}
-use Rattle.writer_core.specs.declared.records.WriterRecord.{WriterRecord}
-use Rattle.writer_core.specs.Transitions.{own_step, step_in, dial_step_as, accepted_step, completed_step, failed_step_as, failed_first, failed_command, failure_answer, free_step_as, take_first, stream_step_as, due_step, due_now, form_step, reach_step_as, reached_length}
+use Rattle.world.specs.PacketCodec.Packet.{Packet}
+use Rattle.world.specs.WriterCore.Action.{Action}
+use Rattle.world.specs.WriterCore.Action.TheVariants as action
+use Rattle.world.specs.WriterCore.ClientAnswer.{ClientAnswer}
+use Rattle.world.specs.WriterCore.ClientAnswer.TheVariants as answer
+use Rattle.world.specs.WriterCore.Command.{Command}
+use Rattle.world.specs.WriterCore.Command.TheVariants as command
+use Rattle.world.specs.WriterCore.DuePacket.{DuePacket}
+use Rattle.world.specs.WriterCore.DuePacket.TheVariants as due
+use Rattle.world.specs.WriterCore.Failure.{Failure}
+use Rattle.world.specs.WriterCore.Failure.TheVariants as failure
+use Rattle.world.specs.WriterCore.Phase.{Phase}
+use Rattle.world.specs.WriterCore.Phase.TheVariants as phase
+use Rattle.world.specs.WriterCore.Setup.{Setup}
+use Rattle.world.specs.WriterCore.Setup.TheVariants as setup
+use Rattle.world.specs.WriterCore.Waiting.{Waiting}
+use Rattle.world.specs.WriterCore.WriterRecord.{WriterRecord}
+use Rattle.world.specs.WriterCore.Transitions.{own_step, step_in, dial_step_as, accepted_step, completed_step, failed_step_as, failed_first, failed_command, failure_answer, free_step_as, take_first, stream_step_as, due_step, due_now, form_step, reach_step_as, reached_length}
 use Rattle.world.specs.Parts.{Answered}
 use Rattle.world.specs.Worlds.{World, Change}
 use Rattle.world.specs.Clients.{reached_answer}

@@ -13,12 +13,12 @@ use Rattle.name_core.specs.declared.records.BlockRecord.{BlockRecord}
 use Rattle.name_core.specs.declared.records.TheConstants.{MAX_APPEND_LENGTH}
 use Rattle.name_core.specs.Records.{opened}
 use Rattle.name_core.proofs.CaseLemmas.{IsWriters}
-use Rattle.writer_core.specs.declared.phases.Phase.{Phase}
-use Rattle.writer_core.specs.declared.phases.Phase.TheVariants as phase
-use Rattle.writer_core.specs.declared.phases.Setup.{Setup}
-use Rattle.writer_core.specs.declared.phases.Setup.TheVariants as setup
-use Rattle.writer_core.specs.declared.records.WriterRecord.{WriterRecord}
-use Rattle.writer_core.specs.Transitions.{begin_session, phase_committed, granted, granted_in, refused, asks}
+use Rattle.world.specs.WriterCore.Phase.{Phase}
+use Rattle.world.specs.WriterCore.Phase.TheVariants as phase
+use Rattle.world.specs.WriterCore.Setup.{Setup}
+use Rattle.world.specs.WriterCore.Setup.TheVariants as setup
+use Rattle.world.specs.WriterCore.WriterRecord.{WriterRecord}
+use Rattle.world.specs.WriterCore.Transitions.{begin_session, phase_committed, granted, granted_in, refused, asks}
 use Rattle.world_laws.proofs.OfficeSteps.{IsAgain, IsLater}
 use Rattle.world.specs.Worlds.{put}
 use Rattle.world_laws.proofs.FactTables.{if-each}

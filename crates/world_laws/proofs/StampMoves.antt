@@ -6,30 +6,30 @@ use Rattle.std.proofs.lemmas.Bool.{false≢true}
 use Rattle.hd_base.specs.declared.numbers.NodeId.{NodeId}
 use Rattle.hd_base.specs.declared.numbers.Stamp.{Stamp}
 use Rattle.hd_base.specs.SumRules.{Rule}
-use Rattle.ack_codec.specs.declared.acks.Ack.{Ack}
-use Rattle.ack_codec.specs.declared.responses.Response.{Response}
-use Rattle.packet_codec.specs.declared.packets.Packet.{Packet}
-use Rattle.packet_stream.specs.Streams.{StreamState, next_packet, sync_packet, oldest_acked, acked_packet, oldest_is_last, oldest_seqno, is_last}
-use Rattle.writer_core.specs.declared.commands.Command.{Command}
-use Rattle.writer_core.specs.declared.commands.Command.TheVariants as command
-use Rattle.writer_core.specs.declared.commands.CommandFault.{CommandFault}
-use Rattle.writer_core.specs.declared.intake.Intake.{Intake}
-use Rattle.writer_core.specs.declared.phases.DuePacket.{DuePacket}
-use Rattle.writer_core.specs.declared.phases.DuePacket.TheVariants as due
-use Rattle.writer_core.specs.declared.phases.Failure.{Failure}
-use Rattle.writer_core.specs.declared.phases.Phase.{Phase}
-use Rattle.writer_core.specs.declared.phases.Phase.TheVariants as phase
-use Rattle.writer_core.specs.declared.phases.Remedy.{Remedy}
-use Rattle.writer_core.specs.declared.phases.Remedy.TheVariants as remedy
-use Rattle.writer_core.specs.declared.phases.Setup.{Setup}
-use Rattle.writer_core.specs.declared.phases.Setup.TheVariants as setup
-use Rattle.writer_core.specs.declared.phases.Verdict.{Verdict}
-use Rattle.writer_core.specs.declared.phases.Verdict.TheVariants as verdict
-use Rattle.writer_core.specs.declared.phases.Waiting.{Waiting}
-use Rattle.writer_core.specs.declared.records.WriterRecord.{WriterRecord}
-use Rattle.writer_core.specs.Commands.{admitted}
-use Rattle.writer_core.specs.Phases.{remedy_after, remedy_in, remedy_at_ack, remedy_accepted, is_success, ack_verdict, bad_place, without}
-use Rattle.writer_core.specs.Transitions.{taken_as, take_first, free_step_as, failed_command, failed_first, failed_step_as, dial_step_as, open_step, completed_step, accepted_step, due_now, form_step, reached_length, reach_step_as, due_step, stream_step_as, step_in, own_step, dropped, fail_for, fail_named, fail_at, ended_as, ended, phase_acked, acked_as, acked_in, acked, setup_answered_in, setup_answered, dialled_in, dialled, given_as, given}
+use Rattle.world.specs.AckCodec.Ack.{Ack}
+use Rattle.world.specs.AckCodec.Response.{Response}
+use Rattle.world.specs.PacketCodec.Packet.{Packet}
+use Rattle.world.specs.PacketStream.Streams.{StreamState, next_packet, sync_packet, oldest_acked, acked_packet, oldest_is_last, oldest_seqno, is_last}
+use Rattle.world.specs.WriterCore.Command.{Command}
+use Rattle.world.specs.WriterCore.Command.TheVariants as command
+use Rattle.world.specs.WriterCore.CommandFault.{CommandFault}
+use Rattle.world.specs.WriterCore.Intake.{Intake}
+use Rattle.world.specs.WriterCore.DuePacket.{DuePacket}
+use Rattle.world.specs.WriterCore.DuePacket.TheVariants as due
+use Rattle.world.specs.WriterCore.Failure.{Failure}
+use Rattle.world.specs.WriterCore.Phase.{Phase}
+use Rattle.world.specs.WriterCore.Phase.TheVariants as phase
+use Rattle.world.specs.WriterCore.Remedy.{Remedy}
+use Rattle.world.specs.WriterCore.Remedy.TheVariants as remedy
+use Rattle.world.specs.WriterCore.Setup.{Setup}
+use Rattle.world.specs.WriterCore.Setup.TheVariants as setup
+use Rattle.world.specs.WriterCore.Verdict.{Verdict}
+use Rattle.world.specs.WriterCore.Verdict.TheVariants as verdict
+use Rattle.world.specs.WriterCore.Waiting.{Waiting}
+use Rattle.world.specs.WriterCore.WriterRecord.{WriterRecord}
+use Rattle.world.specs.WriterCore.Commands.{admitted}
+use Rattle.world.specs.WriterCore.Phases.{remedy_after, remedy_in, remedy_at_ack, remedy_accepted, is_success, ack_verdict, bad_place, without}
+use Rattle.world.specs.WriterCore.Transitions.{taken_as, take_first, free_step_as, failed_command, failed_first, failed_step_as, dial_step_as, open_step, completed_step, accepted_step, due_now, form_step, reached_length, reach_step_as, due_step, stream_step_as, step_in, own_step, dropped, fail_for, fail_named, fail_at, ended_as, ended, phase_acked, acked_as, acked_in, acked, setup_answered_in, setup_answered, dialled_in, dialled, given_as, given}
 use Rattle.world.specs.Connections.{Next, message, the_end}
 use Rattle.world.specs.Parts.{request, packet, ack, response, read_status, recovery_answer}
 use Rattle.world.specs.Clients.{ruled, named_member, writer_hears}

@@ -16,14 +16,14 @@ use Rattle.name_core.specs.Records.{is_stamp, opened}
 use Rattle.name_core.specs.Offices.{OfficeState, block_order, record_of, stamp_given, office_after, answer_to, office_case}
 use Rattle.name_core.proofs.BlockLemmas.{same_or_other, record_of-with_record_same, record_of-with_new_record_same}
 use Rattle.name_core.proofs.CaseLemmas.{each_case}
-use Rattle.writer_core.specs.declared.actions.Action.{Action}
-use Rattle.writer_core.specs.declared.actions.Action.TheVariants as action
-use Rattle.writer_core.specs.declared.records.WriterRecord.{WriterRecord}
-use Rattle.writer_core.specs.Transitions.{own_step, granted}
-use Rattle.recovery_core.specs.declared.primary.OwnStep.{OwnStep}
-use Rattle.recovery_core.specs.declared.primary.OwnStep.TheVariants as step
-use Rattle.recovery_core.specs.Primaries.{sync_call}
-use Rattle.recovery_core.specs.Primaries as primary
+use Rattle.world.specs.WriterCore.Action.{Action}
+use Rattle.world.specs.WriterCore.Action.TheVariants as action
+use Rattle.world.specs.WriterCore.WriterRecord.{WriterRecord}
+use Rattle.world.specs.WriterCore.Transitions.{own_step, granted}
+use Rattle.world.specs.RecoveryCore.OwnStep.{OwnStep}
+use Rattle.world.specs.RecoveryCore.OwnStep.TheVariants as step
+use Rattle.world.specs.RecoveryCore.Primaries.{sync_call}
+use Rattle.world.specs.RecoveryCore.Primaries as primary
 use Rattle.world.specs.declared.events.Caller.{Caller}
 use Rattle.world.specs.declared.events.Caller.TheVariants as caller
 use Rattle.world.specs.Parts.{Told, Writing, Leading, Primary, no_primary, was_told, leads, has_led}

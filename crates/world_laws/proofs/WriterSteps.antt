@@ -4,29 +4,29 @@ use Rattle.std.specs.Prelude.{slice_get}
 use Rattle.hd_base.specs.declared.numbers.NodeId.{NodeId}
 use Rattle.hd_base.specs.declared.numbers.Stamp.{Stamp}
 use Rattle.hd_base.specs.SumRules.{Rule}
-use Rattle.ack_codec.specs.declared.acks.Ack.{Ack}
-use Rattle.ack_codec.specs.declared.responses.Response.{Response}
-use Rattle.packet_codec.specs.declared.packets.Packet.{Packet}
-use Rattle.writer_core.specs.declared.commands.Command.{Command}
-use Rattle.writer_core.specs.declared.commands.Command.TheVariants as command
-use Rattle.writer_core.specs.declared.commands.CommandFault.{CommandFault}
-use Rattle.writer_core.specs.declared.intake.Intake.{Intake}
-use Rattle.writer_core.specs.declared.phases.DuePacket.{DuePacket}
-use Rattle.writer_core.specs.declared.phases.DuePacket.TheVariants as due
-use Rattle.writer_core.specs.declared.phases.Failure.{Failure}
-use Rattle.writer_core.specs.declared.phases.Phase.{Phase}
-use Rattle.writer_core.specs.declared.phases.Phase.TheVariants as phase
-use Rattle.writer_core.specs.declared.phases.Remedy.{Remedy}
-use Rattle.writer_core.specs.declared.phases.Remedy.TheVariants as remedy
-use Rattle.writer_core.specs.declared.phases.Setup.{Setup}
-use Rattle.writer_core.specs.declared.phases.Setup.TheVariants as setup
-use Rattle.writer_core.specs.declared.phases.Verdict.{Verdict}
-use Rattle.writer_core.specs.declared.phases.Verdict.TheVariants as verdict
-use Rattle.writer_core.specs.declared.phases.Waiting.{Waiting}
-use Rattle.writer_core.specs.declared.records.WriterRecord.{WriterRecord}
-use Rattle.writer_core.specs.Commands.{admitted}
-use Rattle.writer_core.specs.Phases.{remedy_after, remedy_in, remedy_at_ack, bad_place, without, is_success}
-use Rattle.writer_core.specs.Transitions.{given, given_as, take_first, taken_as, free_step_as, failed_first, failed_command, failed_step_as, dial_step_as, open_step, accepted_step, completed_step, form_step, reach_step_as, reached_length, due_step, due_now, stream_step_as, step_in, own_step, dropped, fail_for, fail_named, fail_at, ended, ended_as, acked, acked_as, acked_in, setup_answered, setup_answered_in, dialled, dialled_in}
+use Rattle.world.specs.AckCodec.Ack.{Ack}
+use Rattle.world.specs.AckCodec.Response.{Response}
+use Rattle.world.specs.PacketCodec.Packet.{Packet}
+use Rattle.world.specs.WriterCore.Command.{Command}
+use Rattle.world.specs.WriterCore.Command.TheVariants as command
+use Rattle.world.specs.WriterCore.CommandFault.{CommandFault}
+use Rattle.world.specs.WriterCore.Intake.{Intake}
+use Rattle.world.specs.WriterCore.DuePacket.{DuePacket}
+use Rattle.world.specs.WriterCore.DuePacket.TheVariants as due
+use Rattle.world.specs.WriterCore.Failure.{Failure}
+use Rattle.world.specs.WriterCore.Phase.{Phase}
+use Rattle.world.specs.WriterCore.Phase.TheVariants as phase
+use Rattle.world.specs.WriterCore.Remedy.{Remedy}
+use Rattle.world.specs.WriterCore.Remedy.TheVariants as remedy
+use Rattle.world.specs.WriterCore.Setup.{Setup}
+use Rattle.world.specs.WriterCore.Setup.TheVariants as setup
+use Rattle.world.specs.WriterCore.Verdict.{Verdict}
+use Rattle.world.specs.WriterCore.Verdict.TheVariants as verdict
+use Rattle.world.specs.WriterCore.Waiting.{Waiting}
+use Rattle.world.specs.WriterCore.WriterRecord.{WriterRecord}
+use Rattle.world.specs.WriterCore.Commands.{admitted}
+use Rattle.world.specs.WriterCore.Phases.{remedy_after, remedy_in, remedy_at_ack, bad_place, without, is_success}
+use Rattle.world.specs.WriterCore.Transitions.{given, given_as, take_first, taken_as, free_step_as, failed_first, failed_command, failed_step_as, dial_step_as, open_step, accepted_step, completed_step, form_step, reach_step_as, reached_length, due_step, due_now, stream_step_as, step_in, own_step, dropped, fail_for, fail_named, fail_at, ended, ended_as, acked, acked_as, acked_in, setup_answered, setup_answered_in, dialled, dialled_in}
 use Rattle.world.specs.Connections.{Next, message, the_end}
 use Rattle.world.specs.Parts.{request, packet, ack, response, read_status, recovery_answer}
 use Rattle.world.specs.Clients.{ruled, named_member, writer_hears}

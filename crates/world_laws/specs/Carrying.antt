@@ -4,30 +4,30 @@ use Rattle.hd_base.specs.declared.numbers.Stamp.{Stamp}
 use Rattle.name_core.specs.declared.calls.OfficeAnswer.TheVariants as office
 use Rattle.name_core.specs.declared.records.BlockRecord.{BlockRecord}
 use Rattle.name_core.specs.Offices.{record_of}
-use Rattle.op_headers.specs.declared.ops.Op.TheVariants as op
-use Rattle.op_headers.specs.declared.ops.RecoveryOp.{RecoveryOp}
-use Rattle.op_headers.specs.Values.{WriteFields}
-use Rattle.packet_codec.specs.declared.packets.Packet.{Packet}
-use Rattle.packet_stream.specs.Carried.{Carries, IsPiece}
-use Rattle.packet_stream.specs.Streams.{StreamState}
+use Rattle.world.specs.OpHeaders.Op.TheVariants as op
+use Rattle.world.specs.OpHeaders.RecoveryOp.{RecoveryOp}
+use Rattle.world.specs.OpHeaders.Values.{WriteFields}
+use Rattle.world.specs.PacketCodec.Packet.{Packet}
+use Rattle.world.specs.PacketStream.Carried.{Carries, IsPiece}
+use Rattle.world.specs.PacketStream.Streams.{StreamState}
 use Rattle.replica_core.specs.declared.info.ReplicaInfo.{ReplicaInfo}
 use Rattle.replica_core.specs.declared.streams.Stream.{Stream}
-use Rattle.replica_model.specs.Rows.{FullReplica, row}
-use Rattle.replica_model.specs.Found.{IsFront}
-use Rattle.member_core.specs.declared.requests.SetupKind.{SetupKind}
-use Rattle.member_core.specs.declared.requests.SetupKind.TheVariants as kind
-use Rattle.member_core.specs.Requests.{setup_with}
-use Rattle.recovery_core.specs.declared.primary.Phase.{Phase as LeadPhase}
-use Rattle.recovery_core.specs.declared.primary.Phase.TheVariants as lead_phase
-use Rattle.recovery_core.specs.declared.standings.Standing.{Standing}
-use Rattle.recovery_core.specs.declared.standings.Standing.TheVariants as standing
-use Rattle.writer_core.specs.declared.phases.Phase.{Phase}
-use Rattle.writer_core.specs.declared.phases.Phase.TheVariants as phase
-use Rattle.writer_core.specs.declared.phases.Setup.{Setup}
-use Rattle.writer_core.specs.declared.phases.Setup.TheVariants as setup
-use Rattle.writer_core.specs.Requests.{min_length}
-use Rattle.writer_core.specs.Sound.{Sound}
-use Rattle.writer_core.specs.Transitions.{is_connected}
+use Rattle.world.specs.ReplicaModel.Rows.{FullReplica, row}
+use Rattle.world.specs.ReplicaModel.Found.{IsFront}
+use Rattle.world.specs.MemberCore.SetupKind.{SetupKind}
+use Rattle.world.specs.MemberCore.SetupKind.TheVariants as kind
+use Rattle.world.specs.MemberCore.Requests.{setup_with}
+use Rattle.world.specs.RecoveryCore.Phase.{Phase as LeadPhase}
+use Rattle.world.specs.RecoveryCore.Phase.TheVariants as lead_phase
+use Rattle.world.specs.RecoveryCore.Standing.{Standing}
+use Rattle.world.specs.RecoveryCore.Standing.TheVariants as standing
+use Rattle.world.specs.WriterCore.Phase.{Phase}
+use Rattle.world.specs.WriterCore.Phase.TheVariants as phase
+use Rattle.world.specs.WriterCore.Setup.{Setup}
+use Rattle.world.specs.WriterCore.Setup.TheVariants as setup
+use Rattle.world.specs.WriterCore.Requests.{min_length}
+use Rattle.world.specs.WriterCore.Sound.{Sound}
+use Rattle.world.specs.WriterCore.Transitions.{is_connected}
 use Rattle.world.specs.declared.events.Event.{Event}
 use Rattle.world.specs.Parts.{Message, request, packet, recovery_answer, by_primary, FullMember, Lower, writes, Told, Writing, Leading, Primary, no_primary, was_told, leads, has_led, Break}
 use Rattle.world.specs.Worlds.{Past, World, start}

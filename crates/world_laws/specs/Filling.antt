@@ -1,6 +1,6 @@
 -- Every replica has just the bytes that it has written.
 use Rattle.std.specs.Prelude.{ℕ, ◌≡◌, List, IfSome}
-use Rattle.replica_model.specs.Rows.{FullReplica, IsFull, IsWithBytes}
+use Rattle.world.specs.ReplicaModel.Rows.{FullReplica, IsFull, IsWithBytes}
 use Rattle.world.specs.declared.events.Event.{Event}
 use Rattle.world.specs.Parts.{Break}
 use Rattle.world.specs.Worlds.{World, start}

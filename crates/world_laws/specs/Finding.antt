@@ -1,7 +1,7 @@
 -- What a restart finds.
 use Rattle.std.specs.Prelude.{ℕ, ◌≡◌, ◌↔◌, true, Option, Some, None}
-use Rattle.replica_model.specs.Rows.{FullReplica}
-use Rattle.replica_model.specs.Found.{Found, MayFind}
+use Rattle.world.specs.ReplicaModel.Rows.{FullReplica}
+use Rattle.world.specs.ReplicaModel.Found.{Found, MayFind}
 use Rattle.world.specs.Parts.{Break}
 use Rattle.world.specs.Restarts.{may_find, replica_found, restarted}
 

@@ -2,11 +2,11 @@
 use Rattle.std.specs.Prelude.{ℕ, ◌≡◌, ◌≤◌, false, List, length, slice_get, Some, IfSome}
 use Rattle.name_core.specs.declared.records.BlockRecord.{BlockRecord}
 use Rattle.name_core.specs.Offices.{record_of}
-use Rattle.op_headers.specs.declared.ops.Op.TheVariants as op
-use Rattle.op_headers.specs.Values.{WriteFields}
-use Rattle.packet_codec.specs.declared.packets.Packet.{Packet}
-use Rattle.packet_stream.specs.Carried.{IsPiece}
-use Rattle.replica_model.specs.Found.{IsFront}
+use Rattle.world.specs.OpHeaders.Op.TheVariants as op
+use Rattle.world.specs.OpHeaders.Values.{WriteFields}
+use Rattle.world.specs.PacketCodec.Packet.{Packet}
+use Rattle.world.specs.PacketStream.Carried.{IsPiece}
+use Rattle.world.specs.ReplicaModel.Found.{IsFront}
 use Rattle.world.specs.declared.events.Event.{Event}
 use Rattle.world.specs.Parts.{request, packet}
 use Rattle.world.specs.Worlds.{start}

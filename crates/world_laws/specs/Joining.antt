@@ -3,7 +3,7 @@ use Rattle.std.specs.Prelude.{ℕ, ◌≡◌, ◌<◌, ◌≤◌, ◌⊎◌, Boo
 use Rattle.hd_base.specs.declared.numbers.Stamp.{Stamp}
 use Rattle.hd_base.specs.declared.states.ReplicaState.TheVariants as state
 use Rattle.replica_core.specs.declared.info.ReplicaInfo.{ReplicaInfo}
-use Rattle.replica_model.specs.Rows.{FullReplica, row}
+use Rattle.world.specs.ReplicaModel.Rows.{FullReplica, row}
 use Rattle.world.specs.declared.events.Event.{Event}
 use Rattle.world.specs.Parts.{Break, Joined, Answered}
 use Rattle.world.specs.Worlds.{World, start}

@@ -9,3 +9,16 @@ pub mod Stamping
 pub mod Carrying
 pub mod Fronts
 pub mod Joining
+pub mod AckCodec
+pub mod ChunkSums
+pub mod MemberCore
+pub mod NodeRefs
+pub mod OpHeaders
+pub mod PacketCodec
+pub mod PacketStream
+pub mod ReadCore
+pub mod RecoveryCore
+pub mod ReplicaModel
+pub mod RequestRefusals
+pub mod World
+pub mod WriterCore

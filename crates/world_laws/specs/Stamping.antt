@@ -3,14 +3,14 @@ use Rattle.std.specs.Prelude.{ℕ, ◌≡◌, ◌<◌, ◌≤◌, ◌⊎◌, is_
 use Rattle.hd_base.specs.declared.numbers.Stamp.{Stamp}
 use Rattle.name_core.specs.declared.records.BlockRecord.{BlockRecord}
 use Rattle.name_core.specs.Offices.{record_of}
-use Rattle.packet_codec.specs.declared.packets.Packet.{Packet}
-use Rattle.writer_core.specs.declared.phases.Phase.{Phase}
-use Rattle.writer_core.specs.declared.phases.Phase.TheVariants as phase
-use Rattle.writer_core.specs.declared.phases.Setup.{Setup}
-use Rattle.writer_core.specs.declared.phases.Setup.TheVariants as setup
-use Rattle.writer_core.specs.declared.phases.Waiting.{Waiting}
-use Rattle.writer_core.specs.declared.records.WriterRecord.{WriterRecord}
-use Rattle.writer_core.specs.Transitions.{granted}
+use Rattle.world.specs.PacketCodec.Packet.{Packet}
+use Rattle.world.specs.WriterCore.Phase.{Phase}
+use Rattle.world.specs.WriterCore.Phase.TheVariants as phase
+use Rattle.world.specs.WriterCore.Setup.{Setup}
+use Rattle.world.specs.WriterCore.Setup.TheVariants as setup
+use Rattle.world.specs.WriterCore.Waiting.{Waiting}
+use Rattle.world.specs.WriterCore.WriterRecord.{WriterRecord}
+use Rattle.world.specs.WriterCore.Transitions.{granted}
 use Rattle.world.specs.declared.events.Event.{Event}
 use Rattle.world.specs.declared.events.Event.TheVariants as event
 use Rattle.world.specs.Parts.{Told, Writing}

@@ -17,8 +17,6 @@ ghost use Rattle.world_laws.specs.Sessions.{OfficeAndWriterAgree, StampsKeepSess
 ghost use Rattle.world_laws.specs.Stamping.{AllRecorded};
 ghost use Rattle.world_laws.specs.Testing.{AllTested};
 
-use world::Schedule;
-
 /// An event that isn't enabled changes nothing.
 pub fn idle_events_change_nothing()
     ensures { IdleChangesNothing }
@@ -125,3 +123,5 @@ pub fn setups_are_kept()
 pub fn answered_nodes_reach(schedule: &Schedule)
     ensures { AnsweredReach (run (start schedule.now.nodes) schedule.now.events) }
 {}
+
+pub use world::{BlockRef, POOL, ReadOp, Schedule};

@@ -8,15 +8,15 @@ use Rattle.std.proofs.lemmas.List.{append-nil, append_assoc}
 use Rattle.std.proofs.lemmas.Option.{same_Some}
 use Rattle.hd_base.specs.Channels.{same_direction}
 use Rattle.road_traffic.proofs.TrafficLemmas.{same-itself}
-use Rattle.op_headers.specs.Values.{WriteFields}
-use Rattle.member_core.specs.declared.effects.Shuts.{Shuts}
-use Rattle.member_core.specs.declared.effects.Shuts.TheVariants as shuts
-use Rattle.member_core.specs.Steps.{Step, Setup}
-use Rattle.writer_core.specs.declared.actions.Action.{Action}
-use Rattle.writer_core.specs.declared.actions.Action.TheVariants as action
-use Rattle.writer_core.specs.declared.phases.Waiting.{Waiting}
-use Rattle.writer_core.specs.declared.records.WriterRecord.{WriterRecord}
-use Rattle.writer_core.specs.Transitions.{is_connected}
+use Rattle.world.specs.OpHeaders.Values.{WriteFields}
+use Rattle.world.specs.MemberCore.Shuts.{Shuts}
+use Rattle.world.specs.MemberCore.Shuts.TheVariants as shuts
+use Rattle.world.specs.MemberCore.Steps.{Step, Setup}
+use Rattle.world.specs.WriterCore.Action.{Action}
+use Rattle.world.specs.WriterCore.Action.TheVariants as action
+use Rattle.world.specs.WriterCore.Waiting.{Waiting}
+use Rattle.world.specs.WriterCore.WriterRecord.{WriterRecord}
+use Rattle.world.specs.WriterCore.Transitions.{is_connected}
 use Rattle.world.specs.Parts.{Message, packet, FullMember, Break}
 use Rattle.world.specs.Worlds.{World, Change, Dial, dial_at, listed}
 use Rattle.world.specs.Connections.{Next, sent_on, is_conn}

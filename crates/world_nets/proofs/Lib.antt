@@ -8,3 +8,4 @@ pub mod FlushingLemmas
 pub mod DrawnLemmas
 pub mod MirrorLemmas
 pub mod StartLemmas
+pub mod ProtoFields

@@ -3,19 +3,19 @@ use Rattle.std.proofs.Common.{◌≡◌, ℕ, Bool, true, false, List, [], ◌�
 use Rattle.std.specs.Prelude.{◌==◌, ◌&&◌, is_some, if◌then◌else◌}
 use Rattle.std.proofs.lemmas.Option.{same_Some}
 use Rattle.hd_base.specs.declared.numbers.ConnId.{ConnId}
-use Rattle.node_refs.specs.NodeRefs.{ref_of}
-use Rattle.op_headers.specs.declared.nodes.NodeRef.{NodeRef}
-use Rattle.op_headers.specs.Values.{WriteFields}
-use Rattle.replica_core.specs.declared.events.Event.{Event}
-use Rattle.replica_core.specs.Views.{rule_in}
-use Rattle.replica_model.specs.declared.events.ReplicaEvent.TheVariants as replica_event
-use Rattle.replica_model.specs.Rows.{FullReplica, row, row_answer}
-use Rattle.request_refusals.specs.declared.refusals.RequestRefusal.{RequestRefusal}
-use Rattle.member_core.specs.declared.member.Mirror.{Mirror}
-use Rattle.member_core.specs.declared.member.Mirror.TheVariants as mirror
-use Rattle.member_core.specs.Members.{MemberState, set_up, set_up_at, mirror_for}
-use Rattle.member_core.specs.Requests.{mirror_request, request_event}
-use Rattle.member_core.specs.Steps.{request_step, request_at, booked_request, refused_by}
+use Rattle.world.specs.NodeRefs.NodeRefs.{ref_of}
+use Rattle.world.specs.OpHeaders.NodeRef.{NodeRef}
+use Rattle.world.specs.OpHeaders.Values.{WriteFields}
+use Rattle.world.specs.ReplicaCore.Event.{Event}
+use Rattle.world.specs.ReplicaCore.Views.{rule_in}
+use Rattle.world.specs.ReplicaModel.ReplicaEvent.TheVariants as replica_event
+use Rattle.world.specs.ReplicaModel.Rows.{FullReplica, row, row_answer}
+use Rattle.world.specs.RequestRefusals.RequestRefusal.{RequestRefusal}
+use Rattle.world.specs.MemberCore.Mirror.{Mirror}
+use Rattle.world.specs.MemberCore.Mirror.TheVariants as mirror
+use Rattle.world.specs.MemberCore.Members.{MemberState, set_up, set_up_at, mirror_for}
+use Rattle.world.specs.MemberCore.Requests.{mirror_request, request_event}
+use Rattle.world.specs.MemberCore.Steps.{request_step, request_at, booked_request, refused_by}
 use Rattle.world.specs.Worlds.{World}
 use Rattle.world.specs.Nodes.{node_of, mirror_node, mirror_dial, runs_there, is_asked, dials_of, member_dials}
 use Rattle.world_nets.specs.Mirrors.{HasMirror, mirror_dial_of, DialsMirror, setup_at, SetupDials}

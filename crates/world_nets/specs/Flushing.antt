@@ -1,18 +1,18 @@
 -- What members and writers send and shut in their events, as ends that are flushed.
 use Rattle.std.specs.Prelude.{◌≡◌, ◌≢◌, ℕ, ◌<◌, not, Bool, true, false, List, [], ◌∷◌, Option, Some, None}
 use Rattle.hd_base.specs.declared.numbers.NodeId.{NodeId}
-use Rattle.op_headers.specs.declared.ops.Op.{Op}
-use Rattle.op_headers.specs.Values.{WriteFields}
-use Rattle.member_core.specs.declared.effects.Effect.{Effect}
-use Rattle.member_core.specs.declared.effects.Shuts.{Shuts}
-use Rattle.member_core.specs.declared.effects.Shuts.TheVariants as shuts
-use Rattle.member_core.specs.Steps.{Step, Setup}
-use Rattle.name_core.specs.declared.calls.OfficeCall.{OfficeCall}
-use Rattle.writer_core.specs.declared.actions.Action.{Action}
-use Rattle.writer_core.specs.declared.actions.Action.TheVariants as action
-use Rattle.writer_core.specs.declared.phases.Waiting.{Waiting}
-use Rattle.writer_core.specs.declared.records.WriterRecord.{WriterRecord}
-use Rattle.writer_core.specs.Transitions.{is_connected}
+use Rattle.world.specs.OpHeaders.Op.{Op}
+use Rattle.world.specs.OpHeaders.Values.{WriteFields}
+use Rattle.world.specs.MemberCore.Effect.{Effect}
+use Rattle.world.specs.MemberCore.Shuts.{Shuts}
+use Rattle.world.specs.MemberCore.Shuts.TheVariants as shuts
+use Rattle.world.specs.MemberCore.Steps.{Step, Setup}
+use Rattle.world.specs.NameCore.OfficeCall.{OfficeCall}
+use Rattle.world.specs.WriterCore.Action.{Action}
+use Rattle.world.specs.WriterCore.Action.TheVariants as action
+use Rattle.world.specs.WriterCore.Waiting.{Waiting}
+use Rattle.world.specs.WriterCore.WriterRecord.{WriterRecord}
+use Rattle.world.specs.WriterCore.Transitions.{is_connected}
 use Rattle.world.specs.Parts.{Message, request, packet, by_writer, FullMember, Break}
 use Rattle.world.specs.Worlds.{World, Change, Dial}
 use Rattle.world.specs.Connections.{Next, place_of}

@@ -9,3 +9,6 @@ pub mod Flushing
 pub mod Drawn
 pub mod Mirrors
 pub mod Starts
+pub mod ProtoFields
+pub mod RecoveryCore
+pub mod World

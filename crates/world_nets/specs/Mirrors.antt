@@ -1,12 +1,12 @@
 -- Whom a node dials that takes a request to write.
 use Rattle.std.specs.Prelude.{◌≡◌, ℕ, Bool, true, false, List, [], ◌∷◌, Some, None}
-use Rattle.node_refs.specs.NodeRefs.{ref_of}
-use Rattle.op_headers.specs.declared.ops.Op.TheVariants as op
-use Rattle.op_headers.specs.Values.{WriteFields}
-use Rattle.replica_model.specs.Rows.{FullReplica}
-use Rattle.member_core.specs.Members.{MemberState}
-use Rattle.member_core.specs.Requests.{mirror_request}
-use Rattle.member_core.specs.Steps.{Setup, request_step}
+use Rattle.world.specs.NodeRefs.NodeRefs.{ref_of}
+use Rattle.world.specs.OpHeaders.Op.TheVariants as op
+use Rattle.world.specs.OpHeaders.Values.{WriteFields}
+use Rattle.world.specs.ReplicaModel.Rows.{FullReplica}
+use Rattle.world.specs.MemberCore.Members.{MemberState}
+use Rattle.world.specs.MemberCore.Requests.{mirror_request}
+use Rattle.world.specs.MemberCore.Steps.{Setup, request_step}
 use Rattle.world.specs.Parts.{request, by_member}
 use Rattle.world.specs.Worlds.{World, Dial}
 use Rattle.world.specs.Connections.{place_of}

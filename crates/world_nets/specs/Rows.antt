@@ -4,11 +4,11 @@ use Rattle.hd_base.specs.Channels.{same_direction}
 use Rattle.hd_base.specs.Wire.{status_number}
 use Rattle.proto_fields.specs.Varint.{least_varint}
 use Rattle.proto_fields.specs.Writing.{varint_field}
-use Rattle.ack_codec.specs.AckTexts.{ack_text}
-use Rattle.ack_codec.specs.ResponseTexts.{response_text}
-use Rattle.op_headers.specs.Answers.{answer_text}
-use Rattle.op_headers.specs.Requests.{op_text}
-use Rattle.packet_codec.specs.Packets.{packet_text}
+use Rattle.world.specs.AckCodec.AckTexts.{ack_text}
+use Rattle.world.specs.AckCodec.ResponseTexts.{response_text}
+use Rattle.world.specs.OpHeaders.Answers.{answer_text}
+use Rattle.world.specs.OpHeaders.Requests.{op_text}
+use Rattle.world.specs.PacketCodec.Packets.{packet_text}
 use Rattle.world.specs.Parts.{Message, request, packet, ack, response, read_status, recovery_answer, Marks}
 use Rattle.world.specs.Worlds.{World, shut_marks}
 use Rattle.world.specs.Connections.{Next, marks_taken}

@@ -7,29 +7,29 @@ use Rattle.hd_base.specs.declared.numbers.Stamp.{Stamp}
 use Rattle.hd_base.specs.declared.states.Status.TheVariants as status
 use Rattle.op_headers.specs.declared.ops.Op.{Op}
 use Rattle.op_headers.specs.declared.ops.ReadOp.{ReadOp}
-use Rattle.writer_core.specs.declared.actions.Action.{Action}
-use Rattle.writer_core.specs.declared.actions.Action.TheVariants as action
-use Rattle.writer_core.specs.declared.commands.Command.{Command}
-use Rattle.writer_core.specs.declared.commands.Command.TheVariants as command
-use Rattle.writer_core.specs.declared.commands.CommandFault.{CommandFault}
-use Rattle.writer_core.specs.declared.phases.Phase.{Phase}
-use Rattle.writer_core.specs.declared.phases.Phase.TheVariants as phase
-use Rattle.writer_core.specs.declared.phases.Setup.{Setup}
-use Rattle.writer_core.specs.declared.phases.Waiting.{Waiting}
-use Rattle.writer_core.specs.declared.records.WriterRecord.{WriterRecord}
-use Rattle.writer_core.specs.declared.intake.Intake.{Intake}
-use Rattle.writer_core.specs.Commands.{admitted}
-use Rattle.writer_core.specs.Requests.{request_for}
-use Rattle.writer_core.specs.Transitions.{given, given_as, own_step, dial_step, dial_step_as, open_step, completed_step, granted, dialled, dialled_in, is_connected}
-use Rattle.writer_core.specs.Transitions as writer
-use Rattle.read_core.specs.declared.reading.ReadTurn.{ReadTurn}
-use Rattle.read_core.specs.declared.reading.ReadTurn.TheVariants as turn
-use Rattle.read_core.specs.Readings.{ReadTaken, take_from}
-use Rattle.world.specs.declared.events.TakenCommand.{TakenCommand}
-use Rattle.world.specs.Parts.{Message, packet, ack, response, request, read_status, recovery_answer, Upper, by_writer, by_member, by_reader, Dialled, Marks, Told, Reader, no_reader, reads, has_read}
-use Rattle.world.specs.Worlds.{World, Dial, Change, dialled_with}
-use Rattle.world.specs.Connections.{Next, message, the_end, is_conn}
-use Rattle.world.specs.Clients.{writing_as, writer_change, did, dialled_change, dialling, rest_in, is_empty, is_formed, ruled, command_bytes, takes_step, takes_command, writer_step, own_writer, writer_hears, writer_up, named_member, reader_change, reader_dials, own_reader_as, own_reader, from_node_of, reader_turn, reader_up_as, reader_up}
+use Rattle.world_laws.specs.WriterCore.Action.{Action}
+use Rattle.world_laws.specs.WriterCore.Action.TheVariants as action
+use Rattle.world_laws.specs.WriterCore.Command.{Command}
+use Rattle.world_laws.specs.WriterCore.Command.TheVariants as command
+use Rattle.world_laws.specs.WriterCore.CommandFault.{CommandFault}
+use Rattle.world_laws.specs.WriterCore.Phase.{Phase}
+use Rattle.world_laws.specs.WriterCore.Phase.TheVariants as phase
+use Rattle.world_laws.specs.WriterCore.Setup.{Setup}
+use Rattle.world_laws.specs.WriterCore.Waiting.{Waiting}
+use Rattle.world_laws.specs.WriterCore.WriterRecord.{WriterRecord}
+use Rattle.world_laws.specs.WriterCore.Intake.{Intake}
+use Rattle.world_laws.specs.WriterCore.Commands.{admitted}
+use Rattle.world_laws.specs.WriterCore.Requests.{request_for}
+use Rattle.world_laws.specs.WriterCore.Transitions.{given, given_as, own_step, dial_step, dial_step_as, open_step, completed_step, granted, dialled, dialled_in, is_connected}
+use Rattle.world_laws.specs.WriterCore.Transitions as writer
+use Rattle.world_laws.specs.ReadCore.ReadTurn.{ReadTurn}
+use Rattle.world_laws.specs.ReadCore.ReadTurn.TheVariants as turn
+use Rattle.world_laws.specs.ReadCore.Readings.{ReadTaken, take_from}
+use Rattle.world_laws.specs.World.TakenCommand.{TakenCommand}
+use Rattle.world_laws.specs.World.Parts.{Message, packet, ack, response, request, read_status, recovery_answer, Upper, by_writer, by_member, by_reader, Dialled, Marks, Told, Reader, no_reader, reads, has_read}
+use Rattle.world_laws.specs.World.Worlds.{World, Dial, Change, dialled_with}
+use Rattle.world_laws.specs.World.Connections.{Next, message, the_end, is_conn}
+use Rattle.world_laws.specs.World.Clients.{writing_as, writer_change, did, dialled_change, dialling, rest_in, is_empty, is_formed, ruled, command_bytes, takes_step, takes_command, writer_step, own_writer, writer_hears, writer_up, named_member, reader_change, reader_dials, own_reader_as, own_reader, from_node_of, reader_turn, reader_up_as, reader_up}
 use Rattle.world_laws.specs.Placing.{Placed}
 use Rattle.world_laws.proofs.FactTables.{when-each, and-left}
 use Rattle.world_orders.specs.Orders.{comes_down, comes_up, purpose_of, is_response, has_members, HasTaken, IsWriterConn, WriterIs, ReaderIs, Ordered, is_requested}

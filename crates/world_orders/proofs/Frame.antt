@@ -3,8 +3,8 @@ use Rattle.std.proofs.Common.{◌≡◌, ℕ, zero, suc, ◌<◌, ◌≤◌, ◌
 use Rattle.std.specs.Prelude.{◌==◌, nat_le}
 use Rattle.std.proofs.lemmas.Bool.Decides.{nat_tests}
 use Rattle.std.proofs.lemmas.Option.{same_Some}
-use Rattle.world.specs.Parts.{Message, Upper, by_writer, by_member, by_reader, by_primary, Dialled, Marks, Lower, idle, writes, serves, recovers, ended_below, Writing, Reader, no_reader, reads, has_read, Primary, no_primary, was_told, leads, has_led}
-use Rattle.world.specs.Worlds.{World, Dial, Change, dial_at, dialled_with, listed, downs_with, ups_with, marks_with, apply}
+use Rattle.world_laws.specs.World.Parts.{Message, Upper, by_writer, by_member, by_reader, by_primary, Dialled, Marks, Lower, idle, writes, serves, recovers, ended_below, Writing, Reader, no_reader, reads, has_read, Primary, no_primary, was_told, leads, has_led}
+use Rattle.world_laws.specs.World.Worlds.{World, Dial, Change, dial_at, dialled_with, listed, downs_with, ups_with, marks_with, apply}
 use Rattle.world_laws.specs.Placing.{IsConn, IsLower, IsReader, IsPrimary, Placed}
 use Rattle.world_laws.proofs.FactTables.{if-each, put-each}
 use Rattle.world_laws.proofs.PlaceFitting.{Fits, conns_after, dial-is, dial-within}

@@ -2,9 +2,9 @@
 use Rattle.std.proofs.Common.{◌≡◌, ℕ, ◌<◌, ◌-◌, unwrap_or, option_map, ◌⊎◌, inl, inr, Bool, true, false, List, [], ◌++◌, slice_get, Option, Some, None, refl, sym, ap, ◌∙◌, subst, arith, append-nil, eqb-true}
 use Rattle.std.specs.Prelude.{◌==◌, if◌then◌else◌}
 use Rattle.std.proofs.lemmas.Bool.Decides.{nat_tests}
-use Rattle.world.specs.Parts.{Message, Upper, by_writer, by_member, Marks}
-use Rattle.world.specs.Worlds.{World, Dial, Change, dial_at, dialled_with}
-use Rattle.world.specs.Connections.{sent_on}
+use Rattle.world_laws.specs.World.Parts.{Message, Upper, by_writer, by_member, Marks}
+use Rattle.world_laws.specs.World.Worlds.{World, Dial, Change, dial_at, dialled_with}
+use Rattle.world_laws.specs.World.Connections.{sent_on}
 use Rattle.world_laws.specs.Placing.{Placed}
 use Rattle.world_laws.proofs.PlaceFitting.{conns_after, dial-is, dial-within}
 use Rattle.world_orders.specs.Orders.{IsBelow, MirrorIs, HasDialled, WriterIs, ReaderIs, PrimaryIs, Ordered}

@@ -13,3 +13,4 @@ pub mod OpenLowers
 pub mod OpenClients
 pub mod OpenPrimaries
 pub mod AllOpen
+pub mod WorldLaws

@@ -3,7 +3,7 @@ use Rattle.std.proofs.Common.{◌≡◌, ℕ, zero, suc, ◌<◌, ◌≤◌, ◌
 use Rattle.std.specs.Prelude.{nat_le, if◌then◌else◌}
 use Rattle.std.proofs.lemmas.Bool.Decides.{nat_tests}
 use Rattle.std.proofs.lemmas.Option.{none-some}
-use Rattle.world.specs.Worlds.{World, Dial, Change, dial_at, dialled_with}
+use Rattle.world_laws.specs.World.Worlds.{World, Dial, Change, dial_at, dialled_with}
 use Rattle.world_orders.specs.Orders.{is_first}
 
 -- an element of the second of two lists that are joined

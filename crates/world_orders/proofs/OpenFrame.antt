@@ -1,11 +1,11 @@
 -- What a change owes so that whoever may still take hasn't taken the end.
 use Rattle.std.proofs.Common.{◌≡◌, ℕ, Bool, true, false, List, Option, Some, None, IfSome, refl, sym, ap, ◌∙◌, subst, eqb-true}
 use Rattle.std.specs.Prelude.{◌==◌}
-use Rattle.member_core.specs.Members.{hears}
-use Rattle.writer_core.specs.declared.records.WriterRecord.{WriterRecord}
-use Rattle.writer_core.specs.Transitions.{is_connected}
-use Rattle.world.specs.Parts.{Message, Dialled, by_writer, by_member, Marks, Lower, idle, writes, serves, recovers, ended_below, Writing}
-use Rattle.world.specs.Worlds.{World, Change, downs_with, ups_with, marks_with, apply}
+use Rattle.world_laws.specs.MemberCore.Members.{hears}
+use Rattle.world_laws.specs.WriterCore.WriterRecord.{WriterRecord}
+use Rattle.world_laws.specs.WriterCore.Transitions.{is_connected}
+use Rattle.world_laws.specs.World.Parts.{Message, Dialled, by_writer, by_member, Marks, Lower, idle, writes, serves, recovers, ended_below, Writing}
+use Rattle.world_laws.specs.World.Worlds.{World, Change, downs_with, ups_with, marks_with, apply}
 use Rattle.world_laws.proofs.FactTables.{if-each}
 use Rattle.world_orders.specs.Open.{IsOpenBelow, OpenEnds}
 use Rattle.world_orders.specs.Orders.{has_members, IsMirror, MirrorIs, IsWriterConn, WriterIs}

@@ -4,27 +4,27 @@ use Rattle.op_headers.specs.declared.ops.Op.TheVariants as op
 use Rattle.op_headers.specs.declared.ops.ReadOp.{ReadOp}
 use Rattle.op_headers.specs.declared.ops.RecoveryOp.{RecoveryOp}
 use Rattle.op_headers.specs.Values.{WriteFields}
-use Rattle.packet_codec.specs.declared.packets.Packet.{Packet}
+use Rattle.world_laws.specs.PacketCodec.Packet.{Packet}
 use Rattle.replica_core.specs.declared.events.Event.{Event}
 use Rattle.replica_core.specs.Views.{rule_in}
-use Rattle.replica_model.specs.declared.events.ReplicaEvent.{ReplicaEvent}
-use Rattle.replica_model.specs.Rows.{FullReplica}
-use Rattle.request_refusals.specs.declared.refusals.RequestRefusal.{RequestRefusal}
-use Rattle.member_core.specs.declared.member.Mirror.{Mirror}
-use Rattle.member_core.specs.declared.member.Mirror.TheVariants as mirror
-use Rattle.member_core.specs.declared.turns.Booked.{Booked}
-use Rattle.member_core.specs.declared.turns.Booked.TheVariants as booked
-use Rattle.member_core.specs.declared.turns.Turn.{Turn}
-use Rattle.member_core.specs.Members.{MemberState, is_heard, hears, settled, down_turn, up_turn}
-use Rattle.member_core.specs.Requests.{request_event}
-use Rattle.member_core.specs.Steps.{Step, Setup, step, faulted_step, outcome_of, oldest_at, ready_turn_at, request_step, faulted_request}
-use Rattle.read_core.specs.Servings.{ServingState, read_at, read_event, next_call, piece_at}
-use Rattle.recovery_core.specs.declared.members.RecoveryReply.{RecoveryReply}
-use Rattle.recovery_core.specs.Members.{Served, recovery_event, serve, serve_faulted}
-use Rattle.world.specs.Parts.{Message, request, packet, ack, response, read_status, recovery_answer, FullMember, Lower, idle, writes, serves, recovers, ended_below, Break, Marks}
-use Rattle.world.specs.Worlds.{World, Change}
-use Rattle.world.specs.Connections.{Next, message, the_end, is_alive}
-use Rattle.world.specs.Nodes.{replica_at, block_of, closing, unless_failing, above_of, below_of, member_change, failing_turn, turn_change, takes_next, pending_at, member_up, ready_change, is_asked, mirror_conn, lower_of, setup_change, failing_write, write_request, read_change, failing_read, read_request, piece_as, serve_change, recovery_change, failing_recovery, recovery_request, first_message, next_recovery, lower_down, lower_ready, mirror_up}
+use Rattle.world_laws.specs.ReplicaModel.ReplicaEvent.{ReplicaEvent}
+use Rattle.world_laws.specs.ReplicaModel.Rows.{FullReplica}
+use Rattle.world_laws.specs.RequestRefusals.RequestRefusal.{RequestRefusal}
+use Rattle.world_laws.specs.MemberCore.Mirror.{Mirror}
+use Rattle.world_laws.specs.MemberCore.Mirror.TheVariants as mirror
+use Rattle.world_laws.specs.MemberCore.Booked.{Booked}
+use Rattle.world_laws.specs.MemberCore.Booked.TheVariants as booked
+use Rattle.world_laws.specs.MemberCore.Turn.{Turn}
+use Rattle.world_laws.specs.MemberCore.Members.{MemberState, is_heard, hears, settled, down_turn, up_turn}
+use Rattle.world_laws.specs.MemberCore.Requests.{request_event}
+use Rattle.world_laws.specs.MemberCore.Steps.{Step, Setup, step, faulted_step, outcome_of, oldest_at, ready_turn_at, request_step, faulted_request}
+use Rattle.world_laws.specs.ReadCore.Servings.{ServingState, read_at, read_event, next_call, piece_at}
+use Rattle.world_laws.specs.RecoveryCore.RecoveryReply.{RecoveryReply}
+use Rattle.world_laws.specs.RecoveryCore.Members.{Served, recovery_event, serve, serve_faulted}
+use Rattle.world_laws.specs.World.Parts.{Message, request, packet, ack, response, read_status, recovery_answer, FullMember, Lower, idle, writes, serves, recovers, ended_below, Break, Marks}
+use Rattle.world_laws.specs.World.Worlds.{World, Change}
+use Rattle.world_laws.specs.World.Connections.{Next, message, the_end, is_alive}
+use Rattle.world_laws.specs.World.Nodes.{replica_at, block_of, closing, unless_failing, above_of, below_of, member_change, failing_turn, turn_change, takes_next, pending_at, member_up, ready_change, is_asked, mirror_conn, lower_of, setup_change, failing_write, write_request, read_change, failing_read, read_request, piece_as, serve_change, recovery_change, failing_recovery, recovery_request, first_message, next_recovery, lower_down, lower_ready, mirror_up}
 use Rattle.world_laws.proofs.FactTables.{some-weaker, when-each}
 use Rattle.world_orders.specs.Open.{IsOpenBelow}
 use Rattle.world_orders.proofs.Turns.{settled-still, down-keeps, ready-keeps, HearsOn, settled-on, settled-receives, end-closes, up-up}

@@ -4,18 +4,18 @@ use Rattle.std.specs.Prelude.{◌==◌, ◌&&◌, is_none}
 use Rattle.hd_base.specs.declared.numbers.BlockId.{BlockId}
 use Rattle.hd_base.specs.declared.numbers.NodeId.{NodeId}
 use Rattle.name_core.specs.declared.calls.OfficeAnswer.TheVariants as office
-use Rattle.writer_core.specs.declared.actions.Action.{Action}
-use Rattle.writer_core.specs.declared.actions.Action.TheVariants as action
-use Rattle.writer_core.specs.Transitions as writer
-use Rattle.recovery_core.specs.declared.primary.OwnStep.{OwnStep}
-use Rattle.recovery_core.specs.declared.primary.OwnStep.TheVariants as own
-use Rattle.recovery_core.specs.declared.standings.Standing.{Standing}
-use Rattle.recovery_core.specs.Primaries.{PrimaryState, own_step}
-use Rattle.world.specs.Parts.{Place, Told, Leading, Primary, no_primary, was_told, leads, has_led}
-use Rattle.world.specs.Worlds.{World}
-use Rattle.world.specs.Connections.{Next, is_alive, place_of}
-use Rattle.world.specs.Clients.{are_members}
-use Rattle.world.specs.Primaries.{begins_as, begins_at, own_recover, leads_step, commits_step, leads_told, own_primary_as, own_primary, listens, hears_change, primary_up_as, primary_up, writer_asks, primary_commits, writer_asks_office, primary_asks}
+use Rattle.world_laws.specs.WriterCore.Action.{Action}
+use Rattle.world_laws.specs.WriterCore.Action.TheVariants as action
+use Rattle.world_laws.specs.WriterCore.Transitions as writer
+use Rattle.world_laws.specs.RecoveryCore.OwnStep.{OwnStep}
+use Rattle.world_laws.specs.RecoveryCore.OwnStep.TheVariants as own
+use Rattle.world_laws.specs.RecoveryCore.Standing.{Standing}
+use Rattle.world_laws.specs.RecoveryCore.Primaries.{PrimaryState, own_step}
+use Rattle.world_laws.specs.World.Parts.{Place, Told, Leading, Primary, no_primary, was_told, leads, has_led}
+use Rattle.world_laws.specs.World.Worlds.{World}
+use Rattle.world_laws.specs.World.Connections.{Next, is_alive, place_of}
+use Rattle.world_laws.specs.World.Clients.{are_members}
+use Rattle.world_laws.specs.World.Primaries.{begins_as, begins_at, own_recover, leads_step, commits_step, leads_told, own_primary_as, own_primary, listens, hears_change, primary_up_as, primary_up, writer_asks, primary_commits, writer_asks_office, primary_asks}
 use Rattle.world_laws.proofs.FactTables.{when-each}
 use Rattle.world_orders.proofs.OpenFrame.{IsOpenWriter, Beside, WriterOpens}
 

@@ -12,21 +12,21 @@ use Rattle.name_core.specs.declared.calls.OfficeCall.{OfficeCall}
 use Rattle.name_core.specs.declared.calls.OfficeCall.TheVariants as call
 use Rattle.name_core.specs.declared.choice.Chosen.{Chosen}
 use Rattle.name_core.specs.Offices.{answer_to}
-use Rattle.writer_core.specs.declared.actions.Action.{Action}
-use Rattle.writer_core.specs.declared.actions.Action.TheVariants as action
-use Rattle.writer_core.specs.Transitions as writer
-use Rattle.recovery_core.specs.declared.primary.OwnStep.{OwnStep}
-use Rattle.recovery_core.specs.declared.primary.OwnStep.TheVariants as own
-use Rattle.recovery_core.specs.declared.primary.Recovered.{Recovered}
-use Rattle.recovery_core.specs.declared.standings.Standing.{Standing}
-use Rattle.recovery_core.specs.Primaries.{PrimaryState, begun_with, own_step, sync_call, request_of, is_among, office_refused, heard_at}
-use Rattle.world.specs.declared.events.Caller.{Caller}
-use Rattle.world.specs.declared.events.Caller.TheVariants as caller
-use Rattle.world.specs.Parts.{Message, request, Place, Told, Upper, by_writer, by_member, by_primary, Dialled, Marks, Leading, Primary, no_primary, was_told, leads, has_led}
-use Rattle.world.specs.Worlds.{World, Dial, Change, dialled_with}
-use Rattle.world.specs.Connections.{Next, is_conn, is_alive, place_of}
-use Rattle.world.specs.Clients.{are_members}
-use Rattle.world.specs.Primaries.{primary_change, dials_answered, numbered, primary_dials, recovery_message, begins_with, begins_as, begins_at, own_recover, updates_on, updates_change, ends_change, leads_step, commits_step, leads_told, own_primary_as, own_primary, heard_of, listens, hears_change, primary_up_as, primary_up, asks_writer, asks_primary, writer_asks, primary_commits, primary_asks, office_event}
+use Rattle.world_laws.specs.WriterCore.Action.{Action}
+use Rattle.world_laws.specs.WriterCore.Action.TheVariants as action
+use Rattle.world_laws.specs.WriterCore.Transitions as writer
+use Rattle.world_laws.specs.RecoveryCore.OwnStep.{OwnStep}
+use Rattle.world_laws.specs.RecoveryCore.OwnStep.TheVariants as own
+use Rattle.world_laws.specs.RecoveryCore.Recovered.{Recovered}
+use Rattle.world_laws.specs.RecoveryCore.Standing.{Standing}
+use Rattle.world_laws.specs.RecoveryCore.Primaries.{PrimaryState, begun_with, own_step, sync_call, request_of, is_among, office_refused, heard_at}
+use Rattle.world_laws.specs.World.Caller.{Caller}
+use Rattle.world_laws.specs.World.Caller.TheVariants as caller
+use Rattle.world_laws.specs.World.Parts.{Message, request, Place, Told, Upper, by_writer, by_member, by_primary, Dialled, Marks, Leading, Primary, no_primary, was_told, leads, has_led}
+use Rattle.world_laws.specs.World.Worlds.{World, Dial, Change, dialled_with}
+use Rattle.world_laws.specs.World.Connections.{Next, is_conn, is_alive, place_of}
+use Rattle.world_laws.specs.World.Clients.{are_members}
+use Rattle.world_laws.specs.World.Primaries.{primary_change, dials_answered, numbered, primary_dials, recovery_message, begins_with, begins_as, begins_at, own_recover, updates_on, updates_change, ends_change, leads_step, commits_step, leads_told, own_primary_as, own_primary, heard_of, listens, hears_change, primary_up_as, primary_up, asks_writer, asks_primary, writer_asks, primary_commits, primary_asks, office_event}
 use Rattle.world_laws.specs.Placing.{IsPrimary, Placed}
 use Rattle.world_laws.proofs.FactTables.{when-each}
 use Rattle.world_orders.specs.Orders.{comes_down, purpose_of, is_recovery, PrimaryIs, Ordered}

@@ -1,10 +1,10 @@
 -- Which kind of message an end takes next, in a world whose messages come in order.
 use Rattle.std.proofs.Common.{◌≡◌, ℕ, ◌<◌, Bool, true, false, Option, IfSome, refl, subst}
-use Rattle.member_core.specs.declared.member.Mirror.{Mirror}
-use Rattle.member_core.specs.declared.member.Mirror.TheVariants as mirror
-use Rattle.member_core.specs.Members.{is_heard}
-use Rattle.world.specs.Parts.{Upper, idle, writes}
-use Rattle.world.specs.Worlds.{World}
+use Rattle.world_laws.specs.MemberCore.Mirror.{Mirror}
+use Rattle.world_laws.specs.MemberCore.Mirror.TheVariants as mirror
+use Rattle.world_laws.specs.MemberCore.Members.{is_heard}
+use Rattle.world_laws.specs.World.Parts.{Upper, idle, writes}
+use Rattle.world_laws.specs.World.Worlds.{World}
 use Rattle.world_orders.specs.Orders.{Purpose, pipeline, comes_down, comes_up, purpose_of, is_first, is_requested, IsBelow, IsMember, HasHeard, IsMirror, MirrorIs, IsWriterConn, Ordered}
 use Rattle.world_orders.specs.Takes.{is_asked, TakesInOrder}
 use Rattle.world_orders.proofs.Lists.{not-first, first-of}

@@ -2,30 +2,30 @@
 use Rattle.std.proofs.Common.{◌≡◌, Bool, true, false, [], ◌∷◌, Option, Some, None, IfSome, refl, sym, ap, ◌∙◌, subst}
 use Rattle.std.specs.Prelude.{ℤ, ◌==◌, ◌&&◌, if◌then◌else◌}
 use Rattle.hd_base.specs.declared.states.Status.TheVariants as status
-use Rattle.ack_codec.specs.declared.acks.Ack.{Ack}
+use Rattle.world_laws.specs.AckCodec.Ack.{Ack}
 use Rattle.replica_core.specs.declared.ack_queue.PendingPacket.{PendingPacket}
 use Rattle.replica_core.specs.declared.refusals.Refusal.{Refusal}
 use Rattle.replica_core.specs.declared.refusals.Refusal.TheVariants as refusal
-use Rattle.replica_model.specs.declared.events.ReplicaEvent.{ReplicaEvent}
-use Rattle.replica_model.specs.declared.events.ReplicaEvent.TheVariants as replica_event
-use Rattle.member_core.specs.declared.inputs.FromAbove.{FromAbove}
-use Rattle.member_core.specs.declared.inputs.FromAbove.TheVariants as above
-use Rattle.member_core.specs.declared.inputs.FromBelow.{FromBelow}
-use Rattle.member_core.specs.declared.inputs.FromBelow.TheVariants as below
-use Rattle.member_core.specs.declared.effects.Effect.{Effect}
-use Rattle.member_core.specs.declared.effects.Shuts.{Shuts}
-use Rattle.member_core.specs.declared.effects.Shuts.TheVariants as shuts
-use Rattle.member_core.specs.declared.effects.Upward.{Upward}
-use Rattle.member_core.specs.declared.effects.Upward.TheVariants as upward
-use Rattle.member_core.specs.declared.member.Mirror.{Mirror}
-use Rattle.member_core.specs.declared.member.Mirror.TheVariants as mirror
-use Rattle.member_core.specs.declared.turns.Booked.{Booked}
-use Rattle.member_core.specs.declared.turns.Booked.TheVariants as booked
-use Rattle.member_core.specs.declared.turns.Side.{Side}
-use Rattle.member_core.specs.declared.turns.Side.TheVariants as side
-use Rattle.member_core.specs.declared.turns.Turn.{Turn}
-use Rattle.member_core.specs.Acks.{is_success, failures, begins_with_bad_sum, is_read, with_own, ack_of}
-use Rattle.member_core.specs.Members.{MemberState, is_waiting, is_heard, hears, closed, closed_by, done, cut_off, bad_sum, kept_bad, refused_turn, settled, no_effect, down_turn, ready_at, ready_turn, quiet_turn, idle_turn, patient_turn, up_at, up_turn, setup_turn, ack_turn}
+use Rattle.world_laws.specs.ReplicaModel.ReplicaEvent.{ReplicaEvent}
+use Rattle.world_laws.specs.ReplicaModel.ReplicaEvent.TheVariants as replica_event
+use Rattle.world_laws.specs.MemberCore.FromAbove.{FromAbove}
+use Rattle.world_laws.specs.MemberCore.FromAbove.TheVariants as above
+use Rattle.world_laws.specs.MemberCore.FromBelow.{FromBelow}
+use Rattle.world_laws.specs.MemberCore.FromBelow.TheVariants as below
+use Rattle.world_laws.specs.MemberCore.Effect.{Effect}
+use Rattle.world_laws.specs.MemberCore.Shuts.{Shuts}
+use Rattle.world_laws.specs.MemberCore.Shuts.TheVariants as shuts
+use Rattle.world_laws.specs.MemberCore.Upward.{Upward}
+use Rattle.world_laws.specs.MemberCore.Upward.TheVariants as upward
+use Rattle.world_laws.specs.MemberCore.Mirror.{Mirror}
+use Rattle.world_laws.specs.MemberCore.Mirror.TheVariants as mirror
+use Rattle.world_laws.specs.MemberCore.Booked.{Booked}
+use Rattle.world_laws.specs.MemberCore.Booked.TheVariants as booked
+use Rattle.world_laws.specs.MemberCore.Side.{Side}
+use Rattle.world_laws.specs.MemberCore.Side.TheVariants as side
+use Rattle.world_laws.specs.MemberCore.Turn.{Turn}
+use Rattle.world_laws.specs.MemberCore.Acks.{is_success, failures, begins_with_bad_sum, is_read, with_own, ack_of}
+use Rattle.world_laws.specs.MemberCore.Members.{MemberState, is_waiting, is_heard, hears, closed, closed_by, done, cut_off, bad_sum, kept_bad, refused_turn, settled, no_effect, down_turn, ready_at, ready_turn, quiet_turn, idle_turn, patient_turn, up_at, up_turn, setup_turn, ack_turn}
 
 -- HOW A TURN ENDS
 

@@ -5,33 +5,33 @@ use Rattle.std.proofs.lemmas.Option.{none-some, slice_get-get_or}
 use Rattle.std.proofs.lemmas.List.Quantifiers.{position-Some}
 use Rattle.hd_base.specs.declared.numbers.NodeId.{NodeId}
 use Rattle.hd_base.specs.declared.numbers.Stamp.{Stamp}
-use Rattle.ack_codec.specs.declared.acks.Ack.{Ack}
-use Rattle.ack_codec.specs.declared.responses.Response.{Response}
+use Rattle.world_laws.specs.AckCodec.Ack.{Ack}
+use Rattle.world_laws.specs.AckCodec.Response.{Response}
 use Rattle.name_core.specs.declared.calls.OfficeAnswer.{OfficeAnswer}
 use Rattle.name_core.specs.declared.calls.OfficeAnswer.TheVariants as office
 use Rattle.name_core.specs.declared.calls.Reopened.{Reopened}
 use Rattle.name_core.specs.declared.records.TheConstants.{MAX_APPEND_LENGTH}
 use Rattle.name_core.specs.declared.faults.OfficeFault.{OfficeFault}
 use Rattle.name_core.specs.declared.faults.OfficeFault.TheVariants as fault
-use Rattle.packet_stream.specs.Streams.{oldest_is_last, oldest_seqno}
-use Rattle.packet_codec.specs.declared.packets.Packet.{Packet}
-use Rattle.writer_core.specs.declared.commands.Command.{Command}
-use Rattle.writer_core.specs.declared.commands.Command.TheVariants as command
-use Rattle.writer_core.specs.declared.phases.Failure.{Failure}
-use Rattle.writer_core.specs.declared.phases.Phase.{Phase}
-use Rattle.writer_core.specs.declared.phases.Phase.TheVariants as phase
-use Rattle.writer_core.specs.declared.phases.Remedy.{Remedy}
-use Rattle.writer_core.specs.declared.phases.Remedy.TheVariants as remedy
-use Rattle.writer_core.specs.declared.phases.Setup.{Setup}
-use Rattle.writer_core.specs.declared.phases.Setup.TheVariants as setup
-use Rattle.writer_core.specs.declared.phases.Verdict.{Verdict}
-use Rattle.writer_core.specs.declared.phases.Verdict.TheVariants as verdict
-use Rattle.writer_core.specs.declared.phases.Waiting.{Waiting}
-use Rattle.writer_core.specs.declared.records.WriterRecord.{WriterRecord}
-use Rattle.writer_core.specs.Phases.{remedy_in, remedy_at_ack, remedy_after, place_of, bad_place, without, is_success, ack_verdict}
-use Rattle.writer_core.specs.declared.phases.DuePacket.{DuePacket}
-use Rattle.writer_core.specs.declared.phases.DuePacket.TheVariants as due
-use Rattle.writer_core.specs.Transitions.{is_connected, begin_session, own_step, step_in, free_step_as, take_first, taken_as, failed_step_as, failed_first, failed_command, dial_step_as, accepted_step, open_step, completed_step, due_now, due_step, form_step, reach_step_as, reached_length, stream_step_as, granted, granted_in, stamp_given, stamped, reopened, commit_given, committed_as, complete_given, refused, asks, ended, ended_as, fail_named, dropped, acked, acked_in, acked_as, acked_oldest, phase_acked, setup_answered, setup_answered_in, dialled, dialled_in}
+use Rattle.world_laws.specs.PacketStream.Streams.{oldest_is_last, oldest_seqno}
+use Rattle.world_laws.specs.PacketCodec.Packet.{Packet}
+use Rattle.world_laws.specs.WriterCore.Command.{Command}
+use Rattle.world_laws.specs.WriterCore.Command.TheVariants as command
+use Rattle.world_laws.specs.WriterCore.Failure.{Failure}
+use Rattle.world_laws.specs.WriterCore.Phase.{Phase}
+use Rattle.world_laws.specs.WriterCore.Phase.TheVariants as phase
+use Rattle.world_laws.specs.WriterCore.Remedy.{Remedy}
+use Rattle.world_laws.specs.WriterCore.Remedy.TheVariants as remedy
+use Rattle.world_laws.specs.WriterCore.Setup.{Setup}
+use Rattle.world_laws.specs.WriterCore.Setup.TheVariants as setup
+use Rattle.world_laws.specs.WriterCore.Verdict.{Verdict}
+use Rattle.world_laws.specs.WriterCore.Verdict.TheVariants as verdict
+use Rattle.world_laws.specs.WriterCore.Waiting.{Waiting}
+use Rattle.world_laws.specs.WriterCore.WriterRecord.{WriterRecord}
+use Rattle.world_laws.specs.WriterCore.Phases.{remedy_in, remedy_at_ack, remedy_after, place_of, bad_place, without, is_success, ack_verdict}
+use Rattle.world_laws.specs.WriterCore.DuePacket.{DuePacket}
+use Rattle.world_laws.specs.WriterCore.DuePacket.TheVariants as due
+use Rattle.world_laws.specs.WriterCore.Transitions.{is_connected, begin_session, own_step, step_in, free_step_as, take_first, taken_as, failed_step_as, failed_first, failed_command, dial_step_as, accepted_step, open_step, completed_step, due_now, due_step, form_step, reach_step_as, reached_length, stream_step_as, granted, granted_in, stamp_given, stamped, reopened, commit_given, committed_as, complete_given, refused, asks, ended, ended_as, fail_named, dropped, acked, acked_in, acked_as, acked_oldest, phase_acked, setup_answered, setup_answered_in, dialled, dialled_in}
 use Rattle.world_orders.specs.Orders.{has_members, HasTaken, is_requested}
 
 -- WHAT A PHASE SAYS

@@ -1,3 +1,5 @@
 pub mod Orders
 pub mod Takes
 pub mod Open
+pub mod World
+pub mod WorldLaws

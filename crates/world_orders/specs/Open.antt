@@ -1,10 +1,10 @@
 -- Whoever may still take from a connection hasn't taken its end.
 use Rattle.std.specs.Prelude.{ℕ, ◌≡◌, Bool, true, false, List, Some}
-use Rattle.member_core.specs.Members.{hears}
-use Rattle.world.specs.declared.events.Event.{Event}
-use Rattle.world.specs.Parts.{FullMember, Lower, writes, ended_below}
-use Rattle.world.specs.Worlds.{World, start}
-use Rattle.world.specs.Events.{run}
+use Rattle.world_laws.specs.MemberCore.Members.{hears}
+use Rattle.world_laws.specs.World.Event.{Event}
+use Rattle.world_laws.specs.World.Parts.{FullMember, Lower, writes, ended_below}
+use Rattle.world_laws.specs.World.Worlds.{World, start}
+use Rattle.world_laws.specs.World.Events.{run}
 
 -- A lower end that may still take from above hasn't taken the end: a member may as long as its receiver acts, and any
 -- other that hasn't ended.

@@ -1,13 +1,13 @@
 -- Which kind of message an end takes next.
 use Rattle.std.specs.Prelude.{ℕ, ◌≡◌, Bool, true, false, List, Some}
-use Rattle.member_core.specs.declared.member.Mirror.{Mirror}
-use Rattle.member_core.specs.declared.member.Mirror.TheVariants as mirror
-use Rattle.member_core.specs.Members.{hears}
-use Rattle.world.specs.declared.events.Event.{Event}
-use Rattle.world.specs.Parts.{Message, FullMember, idle, writes}
-use Rattle.world.specs.Worlds.{World, start}
-use Rattle.world.specs.Connections.{message, next_down, next_up}
-use Rattle.world.specs.Events.{run}
+use Rattle.world_laws.specs.MemberCore.Mirror.{Mirror}
+use Rattle.world_laws.specs.MemberCore.Mirror.TheVariants as mirror
+use Rattle.world_laws.specs.MemberCore.Members.{hears}
+use Rattle.world_laws.specs.World.Event.{Event}
+use Rattle.world_laws.specs.World.Parts.{Message, FullMember, idle, writes}
+use Rattle.world_laws.specs.World.Worlds.{World, start}
+use Rattle.world_laws.specs.World.Connections.{message, next_down, next_up}
+use Rattle.world_laws.specs.World.Events.{run}
 use Rattle.world_orders.specs.Orders.{comes_down, comes_up, pipeline, purpose_of, is_requested, is_packet}
 
 -- the mirror's answer to the request is awaited

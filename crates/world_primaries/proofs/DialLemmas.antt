@@ -15,9 +15,9 @@ use Rattle.name_core.specs.declared.calls.Begun.{Begun}
 use Rattle.road_traffic.specs.Showing.{Net, IsSane, EndIs, dialled_net, accepted_net}
 use Rattle.road_traffic.specs.Traffic.{Traffic, Traffics, no_traffic}
 use Rattle.road_traffic.proofs.ShowingLemmas.{end-new}
-use Rattle.world.specs.Parts.{Message, Place}
-use Rattle.world.specs.Worlds.{World, Change, Dial, apply, dial_at, listed}
-use Rattle.world.specs.Primaries.{begins_with}
+use Rattle.world_nets.specs.World.Parts.{Message, Place}
+use Rattle.world_nets.specs.World.Worlds.{World, Change, Dial, apply, dial_at, listed}
+use Rattle.world_nets.specs.World.Primaries.{begins_with}
 use Rattle.world_nets.specs.Changes.{Flush, after_flushes, sent_in, sent_by, shut_by, NotOf, AreApart}
 use Rattle.world_nets.specs.Dials.{request_flush, IsAccepted}
 use Rattle.world_nets.specs.Ends.{IsElsewhere, AreElsewhere, flushed_all}

@@ -5,18 +5,18 @@ use Rattle.hd_base.specs.declared.numbers.BlockId.{BlockId}
 use Rattle.hd_base.specs.declared.numbers.ConnId.{ConnId}
 use Rattle.hd_base.specs.declared.numbers.NodeId.{NodeId}
 use Rattle.name_core.specs.declared.choice.Chosen.{Chosen}
-use Rattle.recovery_core.specs.declared.primary.OwnStep.TheVariants as step
-use Rattle.recovery_core.specs.declared.primary.Recovered.{Recovered}
-use Rattle.recovery_core.specs.Primaries.{own_step, end_with}
+use Rattle.world_nets.specs.RecoveryCore.OwnStep.TheVariants as step
+use Rattle.world_nets.specs.RecoveryCore.Recovered.{Recovered}
+use Rattle.world_nets.specs.RecoveryCore.Primaries.{own_step, end_with}
 use Rattle.road_traffic.proofs.TrafficLemmas.{same-itself}
-use Rattle.world.specs.declared.events.Caller.TheVariants as caller
-use Rattle.world.specs.declared.events.Event.TheVariants as event
-use Rattle.world.specs.declared.events.OwnStep.TheVariants as own
-use Rattle.world.specs.Parts.{Told, Leading, Primary, no_primary, leads}
-use Rattle.world.specs.Worlds.{World, Change, apply}
-use Rattle.world.specs.Connections.{Next, place_of, up_taken}
-use Rattle.world.specs.Primaries.{primary_asks, primary_commits, begins_at, begins_as, own_primary_as, leads_told, leads_step, commits_step, updates_change, ends_change, primary_up_as, hears_change}
-use Rattle.world.specs.Events.{outcome, changed, up_as, up_event, upper_up}
+use Rattle.world_nets.specs.World.Caller.TheVariants as caller
+use Rattle.world_nets.specs.World.Event.TheVariants as event
+use Rattle.world_nets.specs.World.OwnStep.TheVariants as own
+use Rattle.world_nets.specs.World.Parts.{Told, Leading, Primary, no_primary, leads}
+use Rattle.world_nets.specs.World.Worlds.{World, Change, apply}
+use Rattle.world_nets.specs.World.Connections.{Next, place_of, up_taken}
+use Rattle.world_nets.specs.World.Primaries.{primary_asks, primary_commits, begins_at, begins_as, own_primary_as, leads_told, leads_step, commits_step, updates_change, ends_change, primary_up_as, hears_change}
+use Rattle.world_nets.specs.World.Events.{outcome, changed, up_as, up_event, upper_up}
 use Rattle.world_nets.specs.Drawn.{ComesUp}
 use Rattle.world_primaries.specs.Drawn.{Leads, begin_asked, commit_asked, AskMakes, MayBegin, StepMakes, hears_at, HearsMember}
 

@@ -1,3 +1,5 @@
 mod DrawnLemmas
 mod LinkLemmas
 mod DialLemmas
+pub mod WorldNets
+pub mod WorldOrders

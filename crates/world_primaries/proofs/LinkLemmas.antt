@@ -6,16 +6,16 @@ use Rattle.std.proofs.lemmas.List.{append-nil}
 use Rattle.hd_base.specs.declared.numbers.NodeId.{NodeId}
 use Rattle.name_core.specs.declared.calls.OfficeCall.{OfficeCall}
 use Rattle.name_core.specs.declared.choice.Chosen.{Chosen}
-use Rattle.recovery_core.specs.declared.primary.Recovered.{Recovered}
-use Rattle.recovery_core.specs.declared.standings.Standing.{Standing}
-use Rattle.recovery_core.specs.Primaries.{PrimaryState, is_among, is_awaited, shuts_at}
+use Rattle.world_nets.specs.RecoveryCore.Recovered.{Recovered}
+use Rattle.world_nets.specs.RecoveryCore.Standing.{Standing}
+use Rattle.world_nets.specs.RecoveryCore.Primaries.{PrimaryState, is_among, is_awaited, shuts_at}
 use Rattle.road_traffic.proofs.TrafficLemmas.{same-itself}
-use Rattle.world.specs.declared.events.Event.{Event}
-use Rattle.world.specs.Parts.{Message, Upper, by_primary, Told, Leading, Primary, no_primary, was_told, leads, has_led}
-use Rattle.world.specs.Worlds.{World, Change, Dial, start, dial_at, listed}
-use Rattle.world.specs.Connections.{Next, is_conn}
-use Rattle.world.specs.Events.{run}
-use Rattle.world.specs.Primaries.{is_among_conns, updates_on, is_done_with, updates_change, ends_change, asks_primary}
+use Rattle.world_nets.specs.World.Event.{Event}
+use Rattle.world_nets.specs.World.Parts.{Message, Upper, by_primary, Told, Leading, Primary, no_primary, was_told, leads, has_led}
+use Rattle.world_nets.specs.World.Worlds.{World, Change, Dial, start, dial_at, listed}
+use Rattle.world_nets.specs.World.Connections.{Next, is_conn}
+use Rattle.world_nets.specs.World.Events.{run}
+use Rattle.world_nets.specs.World.Primaries.{is_among_conns, updates_on, is_done_with, updates_change, ends_change, asks_primary}
 use Rattle.world_nets.specs.Changes.{Flush, sent_in, sent_by, shut_by, NotOf, AreApart}
 use Rattle.world_nets.specs.Flushing.{upper_flushes}
 use Rattle.world_nets.specs.Steps.{SendsBy}

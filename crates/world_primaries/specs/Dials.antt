@@ -7,9 +7,9 @@ use Rattle.hd_base.specs.declared.numbers.BlockId.{BlockId}
 use Rattle.hd_base.specs.declared.numbers.NodeId.{NodeId}
 use Rattle.name_core.specs.declared.calls.Begun.{Begun}
 use Rattle.road_traffic.specs.Showing.{Net, IsSane, dialled_net, accepted_net}
-use Rattle.world.specs.Parts.{Place}
-use Rattle.world.specs.Worlds.{World, Change, Dial, apply}
-use Rattle.world.specs.Primaries.{begins_with}
+use Rattle.world_nets.specs.World.Parts.{Place}
+use Rattle.world_nets.specs.World.Worlds.{World, Change, Dial, apply}
+use Rattle.world_nets.specs.World.Primaries.{begins_with}
 use Rattle.world_nets.specs.Changes.{Flush}
 use Rattle.world_nets.specs.Dials.{request_flush, IsAccepted, HasFlushed}
 use Rattle.world_nets.specs.Ends.{flushed_all}

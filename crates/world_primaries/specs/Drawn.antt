@@ -5,19 +5,19 @@ use Rattle.hd_base.specs.declared.numbers.ConnId.{ConnId}
 use Rattle.hd_base.specs.declared.numbers.NodeId.{NodeId}
 use Rattle.name_core.specs.declared.calls.OfficeCall.TheVariants as call
 use Rattle.name_core.specs.declared.choice.Chosen.{Chosen}
-use Rattle.recovery_core.specs.declared.primary.OwnStep.TheVariants as step
-use Rattle.recovery_core.specs.declared.primary.Recovered.{Recovered}
-use Rattle.recovery_core.specs.declared.standings.Standing.{Standing}
-use Rattle.recovery_core.specs.Primaries.{own_step, end_with, heard_at, shuts_at, sync_call}
-use Rattle.world.specs.declared.events.Caller.TheVariants as caller
-use Rattle.world.specs.declared.events.Event.TheVariants as event
-use Rattle.world.specs.declared.events.OwnStep.TheVariants as own
-use Rattle.world.specs.Parts.{by_primary, Told, Leading, no_primary, was_told, leads}
-use Rattle.world.specs.Worlds.{World, Change, apply}
-use Rattle.world.specs.Connections.{Next, is_alive, is_conn, place_of, up_taken}
-use Rattle.world.specs.Clients.{are_members}
-use Rattle.world.specs.Primaries.{primary_change, begins_as, updates_change, ends_change, heard_of, listens, asks_primary}
-use Rattle.world.specs.Events.{outcome}
+use Rattle.world_nets.specs.RecoveryCore.OwnStep.TheVariants as step
+use Rattle.world_nets.specs.RecoveryCore.Recovered.{Recovered}
+use Rattle.world_nets.specs.RecoveryCore.Standing.{Standing}
+use Rattle.world_nets.specs.RecoveryCore.Primaries.{own_step, end_with, heard_at, shuts_at, sync_call}
+use Rattle.world_nets.specs.World.Caller.TheVariants as caller
+use Rattle.world_nets.specs.World.Event.TheVariants as event
+use Rattle.world_nets.specs.World.OwnStep.TheVariants as own
+use Rattle.world_nets.specs.World.Parts.{by_primary, Told, Leading, no_primary, was_told, leads}
+use Rattle.world_nets.specs.World.Worlds.{World, Change, apply}
+use Rattle.world_nets.specs.World.Connections.{Next, is_alive, is_conn, place_of, up_taken}
+use Rattle.world_nets.specs.World.Clients.{are_members}
+use Rattle.world_nets.specs.World.Primaries.{primary_change, begins_as, updates_change, ends_change, heard_of, listens, asks_primary}
+use Rattle.world_nets.specs.World.Events.{outcome}
 use Rattle.world_nets.specs.Drawn.{ComesUp}
 
 -- PRIMARIES THAT HAVE BEGUN

@@ -1,3 +1,5 @@
 pub mod Drawn
 pub mod Links
 pub mod Dials
+pub mod WorldNets
+pub mod WorldOrders

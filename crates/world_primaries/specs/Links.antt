@@ -4,14 +4,14 @@ use Rattle.name_core.specs.declared.choice.Chosen.{Chosen}
 use Rattle.name_core.specs.declared.calls.OfficeCall.{OfficeCall}
 use Rattle.op_headers.specs.declared.ops.Op.TheVariants as op
 use Rattle.op_headers.specs.declared.ops.RecoveryKind.TheVariants as kind
-use Rattle.recovery_core.specs.declared.primary.Recovered.{Recovered}
-use Rattle.recovery_core.specs.Primaries.{PrimaryState, request_of, shuts_at}
-use Rattle.world.specs.declared.events.Event.{Event}
-use Rattle.world.specs.Parts.{Message, request, Told, Leading, Primary, leads}
-use Rattle.world.specs.Worlds.{World, start}
-use Rattle.world.specs.Connections.{Next}
-use Rattle.world.specs.Primaries.{is_among_conns, updates_on, is_done_with, updates_change, ends_change, asks_primary}
-use Rattle.world.specs.Events.{run}
+use Rattle.world_nets.specs.RecoveryCore.Recovered.{Recovered}
+use Rattle.world_nets.specs.RecoveryCore.Primaries.{PrimaryState, request_of, shuts_at}
+use Rattle.world_nets.specs.World.Event.{Event}
+use Rattle.world_nets.specs.World.Parts.{Message, request, Told, Leading, Primary, leads}
+use Rattle.world_nets.specs.World.Worlds.{World, start}
+use Rattle.world_nets.specs.World.Connections.{Next}
+use Rattle.world_nets.specs.World.Primaries.{is_among_conns, updates_on, is_done_with, updates_change, ends_change, asks_primary}
+use Rattle.world_nets.specs.World.Events.{run}
 use Rattle.world_nets.specs.Changes.{Flush}
 use Rattle.world_nets.specs.Flushing.{upper_flushes}
 use Rattle.world_nets.specs.Steps.{SendsBy}

@@ -3,24 +3,24 @@ use Rattle.std.proofs.Common.{◌≡◌, ℕ, ◌<◌, ◌≤◌, ◌+◌, Bool,
 use Rattle.std.specs.Prelude.{◌==◌, ◌&&◌, not, nat_lt, if◌then◌else◌}
 use Rattle.std.proofs.lemmas.Option.{none-some}
 use Rattle.hd_base.specs.declared.numbers.Stamp.{Stamp}
-use Rattle.world.specs.declared.events.Caller.{Caller}
-use Rattle.world.specs.declared.events.Caller.TheVariants as caller
-use Rattle.world.specs.declared.events.Delivery.{Delivery}
-use Rattle.world.specs.declared.events.Delivery.TheVariants as delivery
-use Rattle.world.specs.declared.events.Direction.{Direction}
-use Rattle.world.specs.declared.events.Direction.TheVariants as direction
-use Rattle.world.specs.declared.events.Event.{Event}
-use Rattle.world.specs.declared.events.Event.TheVariants as event
-use Rattle.world.specs.declared.events.OwnStep.{OwnStep}
-use Rattle.world.specs.declared.events.OwnStep.TheVariants as own
-use Rattle.world.specs.Parts.{Upper, by_writer, by_member, by_reader, by_primary}
-use Rattle.world.specs.Worlds.{World, Change, Stamped, apply, start}
-use Rattle.world.specs.Connections.{Next, message, the_end, next_down, next_up, down_taken, up_taken, is_alive, is_served}
-use Rattle.world.specs.Nodes.{node_of, lower_down, lower_ready}
-use Rattle.world.specs.Clients.{own_writer, own_reader, writer_up, reader_up}
-use Rattle.world.specs.Primaries.{office_event, primary_up}
-use Rattle.world.specs.Restarts.{restart}
-use Rattle.world.specs.Events.{changed, own_change, down_as, down_event, ready_event, unless_fails, upper_up, up_as, up_event, fault_event, lost, stop, where_so, outcome, after_event, happens, run}
+use Rattle.world_laws.specs.World.Caller.{Caller}
+use Rattle.world_laws.specs.World.Caller.TheVariants as caller
+use Rattle.world_laws.specs.World.Delivery.{Delivery}
+use Rattle.world_laws.specs.World.Delivery.TheVariants as delivery
+use Rattle.world_laws.specs.World.Direction.{Direction}
+use Rattle.world_laws.specs.World.Direction.TheVariants as direction
+use Rattle.world_laws.specs.World.Event.{Event}
+use Rattle.world_laws.specs.World.Event.TheVariants as event
+use Rattle.world_laws.specs.World.OwnStep.{OwnStep}
+use Rattle.world_laws.specs.World.OwnStep.TheVariants as own
+use Rattle.world_laws.specs.World.Parts.{Upper, by_writer, by_member, by_reader, by_primary}
+use Rattle.world_laws.specs.World.Worlds.{World, Change, Stamped, apply, start}
+use Rattle.world_laws.specs.World.Connections.{Next, message, the_end, next_down, next_up, down_taken, up_taken, is_alive, is_served}
+use Rattle.world_laws.specs.World.Nodes.{node_of, lower_down, lower_ready}
+use Rattle.world_laws.specs.World.Clients.{own_writer, own_reader, writer_up, reader_up}
+use Rattle.world_laws.specs.World.Primaries.{office_event, primary_up}
+use Rattle.world_laws.specs.World.Restarts.{restart}
+use Rattle.world_laws.specs.World.Events.{changed, own_change, down_as, down_event, ready_event, unless_fails, upper_up, up_as, up_event, fault_event, lost, stop, where_so, outcome, after_event, happens, run}
 use Rattle.world_laws.proofs.FactTables.{when-each, and-left, some-weaker}
 use Rattle.world_laws.specs.Stamping.{Givens, none_given, given_with, stamped_in, given_by, given_in, Recorded}
 use Rattle.world_laws.proofs.AllRecorded.{happens-recorded, Reached, reached-next, reached-agreed, start-recorded}
@@ -52,39 +52,39 @@ use Rattle.op_headers.specs.declared.ops.Op.TheVariants as op
 use Rattle.op_headers.specs.declared.ops.RecoveryOp.{RecoveryOp}
 use Rattle.op_headers.specs.declared.ops.RecoveryKind.TheVariants as kind
 use Rattle.replica_core.specs.declared.events.Event.{Event as CoreEvent}
-use Rattle.replica_model.specs.declared.events.ReplicaEvent.TheVariants as replica_event
-use Rattle.recovery_core.specs.declared.members.RecoveryReply.{RecoveryReply}
-use Rattle.recovery_core.specs.Members.{Served, recovery_event, serve, serve_faulted}
-use Rattle.recovery_core.specs.declared.primary.OwnStep.{OwnStep as LeadStep}
-use Rattle.recovery_core.specs.declared.primary.OwnStep.TheVariants as lead
-use Rattle.recovery_core.specs.declared.standings.Heard.{Heard}
-use Rattle.recovery_core.specs.declared.standings.Standing.{Standing}
-use Rattle.recovery_core.specs.Primaries.{PrimaryState, begun_with, end_with, heard_as, heard_at, office_refused, request_of, shuts_at, sync_call}
-use Rattle.recovery_core.specs.Primaries as primary
-use Rattle.writer_core.specs.declared.actions.Action.{Action}
-use Rattle.writer_core.specs.declared.actions.Action.TheVariants as action
-use Rattle.writer_core.specs.declared.actions.ClientAnswer.{ClientAnswer}
-use Rattle.writer_core.specs.declared.actions.ClientAnswer.TheVariants as answer
-use Rattle.writer_core.specs.declared.commands.Command.{Command}
-use Rattle.writer_core.specs.declared.commands.Command.TheVariants as command
-use Rattle.writer_core.specs.declared.commands.CommandFault.{CommandFault}
-use Rattle.writer_core.specs.declared.intake.Intake.{Intake}
-use Rattle.writer_core.specs.declared.phases.Phase.{Phase}
-use Rattle.writer_core.specs.declared.phases.Phase.TheVariants as phase
-use Rattle.writer_core.specs.declared.phases.Waiting.{Waiting}
-use Rattle.writer_core.specs.declared.records.WriterRecord.{WriterRecord}
-use Rattle.writer_core.specs.Commands.{admitted}
-use Rattle.writer_core.specs.Laws.{NamesCommitted}
-use Rattle.writer_core.specs.Transitions.{given, given_as, own_step, dial_step, granted}
-use Rattle.writer_core.proofs.StampLemmas.{stamps_are_committed}
-use Rattle.world.specs.declared.events.TakenCommand.{TakenCommand}
-use Rattle.world.specs.Parts.{Message, request, packet, ack, response, read_status, recovery_answer, Place, Lower, idle, writes, serves, recovers, ended_below, Break, Answered, Told, Writing, Leading, Primary, no_primary, was_told, leads, has_led}
-use Rattle.world.specs.Worlds.{Past, Dial, put}
-use Rattle.world.specs.Connections.{place_of, is_conn}
-use Rattle.world.specs.Nodes.{replica_at, broke_at, read_request, write_request, recovery_change, failing_recovery, recovery_request, first_message, next_recovery, mirror_up}
-use Rattle.world.specs.Clients.{are_members, did, reached_answer, dialled_change, dialling, rest_in, is_empty, is_formed, ruled, command_bytes, writer_step}
-use Rattle.world.specs.Primaries.{primary_change, is_among_conns, primary_dials, dials_answered, begins_with, begins_as, begins_at, updates_change, leads_step, commits_step, leads_told, own_primary_as, heard_of, listens, hears_change, primary_up_as, stamp_of, stamped_by, asks_writer, asks_primary, writer_asks, primary_commits, primary_asks}
-use Rattle.world.specs.Safe.{Has}
+use Rattle.world_laws.specs.ReplicaModel.ReplicaEvent.TheVariants as replica_event
+use Rattle.world_laws.specs.RecoveryCore.RecoveryReply.{RecoveryReply}
+use Rattle.world_laws.specs.RecoveryCore.Members.{Served, recovery_event, serve, serve_faulted}
+use Rattle.world_laws.specs.RecoveryCore.OwnStep.{OwnStep as LeadStep}
+use Rattle.world_laws.specs.RecoveryCore.OwnStep.TheVariants as lead
+use Rattle.world_laws.specs.RecoveryCore.Heard.{Heard}
+use Rattle.world_laws.specs.RecoveryCore.Standing.{Standing}
+use Rattle.world_laws.specs.RecoveryCore.Primaries.{PrimaryState, begun_with, end_with, heard_as, heard_at, office_refused, request_of, shuts_at, sync_call}
+use Rattle.world_laws.specs.RecoveryCore.Primaries as primary
+use Rattle.world_laws.specs.WriterCore.Action.{Action}
+use Rattle.world_laws.specs.WriterCore.Action.TheVariants as action
+use Rattle.world_laws.specs.WriterCore.ClientAnswer.{ClientAnswer}
+use Rattle.world_laws.specs.WriterCore.ClientAnswer.TheVariants as answer
+use Rattle.world_laws.specs.WriterCore.Command.{Command}
+use Rattle.world_laws.specs.WriterCore.Command.TheVariants as command
+use Rattle.world_laws.specs.WriterCore.CommandFault.{CommandFault}
+use Rattle.world_laws.specs.WriterCore.Intake.{Intake}
+use Rattle.world_laws.specs.WriterCore.Phase.{Phase}
+use Rattle.world_laws.specs.WriterCore.Phase.TheVariants as phase
+use Rattle.world_laws.specs.WriterCore.Waiting.{Waiting}
+use Rattle.world_laws.specs.WriterCore.WriterRecord.{WriterRecord}
+use Rattle.world_laws.specs.WriterCore.Commands.{admitted}
+use Rattle.world_laws.specs.WriterCore.Laws.{NamesCommitted}
+use Rattle.world_laws.specs.WriterCore.Transitions.{given, given_as, own_step, dial_step, granted}
+use Rattle.world_laws.proofs.WriterCore.StampLemmas.{stamps_are_committed}
+use Rattle.world_laws.specs.World.TakenCommand.{TakenCommand}
+use Rattle.world_laws.specs.World.Parts.{Message, request, packet, ack, response, read_status, recovery_answer, Place, Lower, idle, writes, serves, recovers, ended_below, Break, Answered, Told, Writing, Leading, Primary, no_primary, was_told, leads, has_led}
+use Rattle.world_laws.specs.World.Worlds.{Past, Dial, put}
+use Rattle.world_laws.specs.World.Connections.{place_of, is_conn}
+use Rattle.world_laws.specs.World.Nodes.{replica_at, broke_at, read_request, write_request, recovery_change, failing_recovery, recovery_request, first_message, next_recovery, mirror_up}
+use Rattle.world_laws.specs.World.Clients.{are_members, did, reached_answer, dialled_change, dialling, rest_in, is_empty, is_formed, ruled, command_bytes, writer_step}
+use Rattle.world_laws.specs.World.Primaries.{primary_change, is_among_conns, primary_dials, dials_answered, begins_with, begins_as, begins_at, updates_change, leads_step, commits_step, leads_told, own_primary_as, heard_of, listens, hears_change, primary_up_as, stamp_of, stamped_by, asks_writer, asks_primary, writer_asks, primary_commits, primary_asks}
+use Rattle.world_laws.specs.World.Safe.{Has}
 use Rattle.world_laws.specs.Sessions.{told_stamp, stamp_heard}
 use Rattle.world_laws.proofs.FactTables.{if-each}
 use Rattle.world_laws.proofs.Agreements as agreements

@@ -4,26 +4,26 @@ use Rattle.std.specs.Prelude.{◌==◌, ◌&&◌, not, nat_lt, if◌then◌else�
 use Rattle.std.proofs.lemmas.Bool.Decides.{nat_tests}
 use Rattle.std.proofs.lemmas.Option.{none-some}
 use Rattle.hd_base.specs.declared.numbers.Stamp.{Stamp}
-use Rattle.replica_model.specs.Rows.{FullReplica}
-use Rattle.world.specs.declared.events.Caller.{Caller}
-use Rattle.world.specs.declared.events.Caller.TheVariants as caller
-use Rattle.world.specs.declared.events.Delivery.{Delivery}
-use Rattle.world.specs.declared.events.Delivery.TheVariants as delivery
-use Rattle.world.specs.declared.events.Direction.{Direction}
-use Rattle.world.specs.declared.events.Direction.TheVariants as direction
-use Rattle.world.specs.declared.events.Event.{Event}
-use Rattle.world.specs.declared.events.Event.TheVariants as event
-use Rattle.world.specs.declared.events.FoundReplica.{FoundReplica}
-use Rattle.world.specs.declared.events.OwnStep.{OwnStep}
-use Rattle.world.specs.declared.events.OwnStep.TheVariants as own
-use Rattle.world.specs.Parts.{Place, Updated, Upper, by_writer, by_member, by_reader, by_primary}
-use Rattle.world.specs.Worlds.{Past, World, Change, Stamped, apply, start}
-use Rattle.world.specs.Connections.{Next, message, the_end, next_down, next_up, down_taken, up_taken, is_alive, is_served}
-use Rattle.world.specs.Nodes.{node_of, lower_down, lower_ready}
-use Rattle.world.specs.Clients.{own_writer, own_reader, writer_up, reader_up}
-use Rattle.world.specs.Primaries.{office_event, writer_asks_office, primary_up}
-use Rattle.world.specs.Restarts.{found_in, restarted, restart}
-use Rattle.world.specs.Events.{changed, own_change, down_as, down_event, ready_event, unless_fails, upper_up, up_as, up_event, fault_event, lost, stop, where_so, outcome, after_event, happens, run}
+use Rattle.world_laws.specs.ReplicaModel.Rows.{FullReplica}
+use Rattle.world_laws.specs.World.Caller.{Caller}
+use Rattle.world_laws.specs.World.Caller.TheVariants as caller
+use Rattle.world_laws.specs.World.Delivery.{Delivery}
+use Rattle.world_laws.specs.World.Delivery.TheVariants as delivery
+use Rattle.world_laws.specs.World.Direction.{Direction}
+use Rattle.world_laws.specs.World.Direction.TheVariants as direction
+use Rattle.world_laws.specs.World.Event.{Event}
+use Rattle.world_laws.specs.World.Event.TheVariants as event
+use Rattle.world_laws.specs.World.FoundReplica.{FoundReplica}
+use Rattle.world_laws.specs.World.OwnStep.{OwnStep}
+use Rattle.world_laws.specs.World.OwnStep.TheVariants as own
+use Rattle.world_laws.specs.World.Parts.{Place, Updated, Upper, by_writer, by_member, by_reader, by_primary}
+use Rattle.world_laws.specs.World.Worlds.{Past, World, Change, Stamped, apply, start}
+use Rattle.world_laws.specs.World.Connections.{Next, message, the_end, next_down, next_up, down_taken, up_taken, is_alive, is_served}
+use Rattle.world_laws.specs.World.Nodes.{node_of, lower_down, lower_ready}
+use Rattle.world_laws.specs.World.Clients.{own_writer, own_reader, writer_up, reader_up}
+use Rattle.world_laws.specs.World.Primaries.{office_event, writer_asks_office, primary_up}
+use Rattle.world_laws.specs.World.Restarts.{found_in, restarted, restart}
+use Rattle.world_laws.specs.World.Events.{changed, own_change, down_as, down_event, ready_event, unless_fails, upper_up, up_as, up_event, fault_event, lost, stop, where_so, outcome, after_event, happens, run}
 use Rattle.world_laws.proofs.FactTables.{when-each, and-left, and-right, some-weaker}
 use Rattle.world_laws.specs.Stamping.{Givens, none_given, given_with, stamped_in, given_by, given_in, Recorded}
 use Rattle.world_laws.proofs.AllRecorded.{happens-recorded, Reached, reached-next, reached-agreed, start-recorded}
@@ -33,7 +33,7 @@ use Rattle.world_laws.proofs.ByteLeaves.{Facts}
 use Rattle.world_laws.proofs.ByteEnds.{lower-ready-keeps}
 use Rattle.world_laws.proofs.ByteOffices.{office-event-keeps}
 use Rattle.world_laws.proofs.AllCarried.{next-sent, down-taken-facts, up-taken-facts, changed-carried, down-as-carried, up-as-carried, own-keeps, office-carried, happens-carried, reached-facts, at-start, start-carried}
-use Rattle.world.specs.Safe.{Has}
+use Rattle.world_laws.specs.World.Safe.{Has}
 use Rattle.world_laws.specs.Joining.{AtLeast, IsSetUp}
 use Rattle.world_laws.proofs.AllSetUp.{served-life, given-stays, all-set}
 use Rattle.world_recoveries.specs.Recovering.{ReplicaTold, Informs, InfoFits, StillTrue, Recovering}

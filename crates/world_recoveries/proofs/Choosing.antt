@@ -14,13 +14,13 @@ use Rattle.name_core.specs.declared.choice.Kept.{Kept}
 use Rattle.name_core.specs.declared.choice.Kept.TheVariants as kept
 use Rattle.name_core.specs.declared.infos.Info.{Info}
 use Rattle.name_core.specs.Choice.{is_candidate, is_finalized, is_rbw, is_rwr, is_finalized_candidate, is_kept, is_chosen, kept_infos, lesser, least, kept_lengths, chosen, shortest, unless_other, other_length, finalized_by, first_of, choice}
-use Rattle.recovery_core.specs.declared.primary.OwnStep.TheVariants as own
-use Rattle.recovery_core.specs.declared.primary.Phase.{Phase}
-use Rattle.recovery_core.specs.declared.primary.Phase.TheVariants as phase
-use Rattle.recovery_core.specs.declared.standings.Standing.{Standing}
-use Rattle.recovery_core.specs.declared.standings.Standing.TheVariants as standing
-use Rattle.recovery_core.specs.Primaries.{PrimaryState, waits, infos, updated_members, is_among, all_after_choice, OwnTaken, taken, choosing, committing, own_at, own_step}
-use Rattle.world.specs.Safe.{Has}
+use Rattle.world_laws.specs.RecoveryCore.OwnStep.TheVariants as own
+use Rattle.world_laws.specs.RecoveryCore.Phase.{Phase}
+use Rattle.world_laws.specs.RecoveryCore.Phase.TheVariants as phase
+use Rattle.world_laws.specs.RecoveryCore.Standing.{Standing}
+use Rattle.world_laws.specs.RecoveryCore.Standing.TheVariants as standing
+use Rattle.world_laws.specs.RecoveryCore.Primaries.{PrimaryState, waits, infos, updated_members, is_among, all_after_choice, OwnTaken, taken, choosing, committing, own_at, own_step}
+use Rattle.world_laws.specs.World.Safe.{Has}
 use Rattle.world_laws.proofs.FactTables.{if-each, and-left, and-right}
 use Rattle.world_laws.proofs.ByteLeading.{least-is}
 use Rattle.world_laws.proofs.SetupNodes.{has-cons}

@@ -7,26 +7,26 @@ use Rattle.op_headers.specs.declared.ops.Op.{Op}
 use Rattle.op_headers.specs.declared.ops.Op.TheVariants as op
 use Rattle.op_headers.specs.declared.ops.ReadOp.{ReadOp}
 use Rattle.op_headers.specs.declared.ops.RecoveryOp.{RecoveryOp}
-use Rattle.read_core.specs.Readings.{ReadTaken, take_from}
-use Rattle.read_core.specs.declared.reading.ReadTurn.{ReadTurn}
-use Rattle.read_core.specs.declared.reading.ReadTurn.TheVariants as turn
-use Rattle.writer_core.specs.declared.actions.Action.{Action}
-use Rattle.writer_core.specs.declared.actions.Action.TheVariants as action
-use Rattle.writer_core.specs.declared.phases.Phase.{Phase}
-use Rattle.writer_core.specs.declared.phases.Phase.TheVariants as phase
-use Rattle.writer_core.specs.declared.phases.Setup.{Setup}
-use Rattle.writer_core.specs.declared.phases.Waiting.{Waiting}
-use Rattle.writer_core.specs.declared.records.WriterRecord.{WriterRecord}
-use Rattle.writer_core.specs.Requests.{request_for}
-use Rattle.writer_core.specs.Transitions.{given, granted, dialled, own_step, dial_step, dial_step_as, open_step, completed_step}
-use Rattle.writer_core.specs.Transitions as writer
-use Rattle.world.specs.declared.events.TakenCommand.{TakenCommand}
-use Rattle.replica_model.specs.Rows.{FullReplica}
-use Rattle.world.specs.Parts.{Message, request, packet, by_writer, by_reader, by_primary, Told, Updated, Reader, no_reader, reads, has_read}
-use Rattle.world.specs.Worlds.{World, Dial, Change}
-use Rattle.world.specs.Connections.{Next, is_conn}
-use Rattle.world.specs.Clients.{command_bytes, dialled_change, dialling, did, from_node_of, is_empty, is_formed, own_reader, own_reader_as, own_writer, reader_dials, reader_turn, reader_up, reader_up_as, rest_in, ruled, takes_command, takes_step, writer_change, writer_hears, writer_step, writer_up}
-use Rattle.world.specs.Primaries.{asks_writer, writer_asks, writer_asks_office}
+use Rattle.world_laws.specs.ReadCore.Readings.{ReadTaken, take_from}
+use Rattle.world_laws.specs.ReadCore.ReadTurn.{ReadTurn}
+use Rattle.world_laws.specs.ReadCore.ReadTurn.TheVariants as turn
+use Rattle.world_laws.specs.WriterCore.Action.{Action}
+use Rattle.world_laws.specs.WriterCore.Action.TheVariants as action
+use Rattle.world_laws.specs.WriterCore.Phase.{Phase}
+use Rattle.world_laws.specs.WriterCore.Phase.TheVariants as phase
+use Rattle.world_laws.specs.WriterCore.Setup.{Setup}
+use Rattle.world_laws.specs.WriterCore.Waiting.{Waiting}
+use Rattle.world_laws.specs.WriterCore.WriterRecord.{WriterRecord}
+use Rattle.world_laws.specs.WriterCore.Requests.{request_for}
+use Rattle.world_laws.specs.WriterCore.Transitions.{given, granted, dialled, own_step, dial_step, dial_step_as, open_step, completed_step}
+use Rattle.world_laws.specs.WriterCore.Transitions as writer
+use Rattle.world_laws.specs.World.TakenCommand.{TakenCommand}
+use Rattle.world_laws.specs.ReplicaModel.Rows.{FullReplica}
+use Rattle.world_laws.specs.World.Parts.{Message, request, packet, by_writer, by_reader, by_primary, Told, Updated, Reader, no_reader, reads, has_read}
+use Rattle.world_laws.specs.World.Worlds.{World, Dial, Change}
+use Rattle.world_laws.specs.World.Connections.{Next, is_conn}
+use Rattle.world_laws.specs.World.Clients.{command_bytes, dialled_change, dialling, did, from_node_of, is_empty, is_formed, own_reader, own_reader_as, own_writer, reader_dials, reader_turn, reader_up, reader_up_as, rest_in, ruled, takes_command, takes_step, writer_change, writer_hears, writer_step, writer_up}
+use Rattle.world_laws.specs.World.Primaries.{asks_writer, writer_asks, writer_asks_office}
 use Rattle.world_laws.proofs.FactTables.{when-each}
 use Rattle.world_laws.proofs.ByteFrame.{Each, each-nil, each-one}
 use Rattle.std.proofs.lemmas.Option.{none-some}

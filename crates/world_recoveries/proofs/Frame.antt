@@ -8,17 +8,17 @@ use Rattle.op_headers.specs.declared.answers.RecoveryAnswer.{RecoveryAnswer}
 use Rattle.op_headers.specs.declared.ops.Op.TheVariants as op
 use Rattle.op_headers.specs.declared.ops.RecoveryOp.{RecoveryOp}
 use Rattle.op_headers.specs.declared.ops.RecoveryKind.TheVariants as kind
-use Rattle.replica_model.specs.Rows.{FullReplica}
+use Rattle.world_laws.specs.ReplicaModel.Rows.{FullReplica}
 use Rattle.replica_core.specs.declared.info.ReplicaInfo.{ReplicaInfo}
-use Rattle.world.specs.Parts.{request, recovery_answer, by_primary, Place, Dialled, Primary, Updated}
-use Rattle.world.specs.Worlds.{Past, World, Dial, Change, put, put_at, dial_at, dialled_with, past_after, apply}
+use Rattle.world_laws.specs.World.Parts.{request, recovery_answer, by_primary, Place, Dialled, Primary, Updated}
+use Rattle.world_laws.specs.World.Worlds.{Past, World, Dial, Change, put, put_at, dial_at, dialled_with, past_after, apply}
 use Rattle.world_laws.proofs.FactTables.{if-each, put-each}
 use Rattle.world_laws.specs.Stamping.{Givens}
 use Rattle.world_laws.specs.Carrying.{InfoSays, Carried}
 use Rattle.world_laws.proofs.ByteFrame.{past-grows, dial-place, dial-none}
 use Rattle.world_laws.specs.Joining.{AtLeast}
 use Rattle.world_laws.proofs.SetupNodes.{put-at-split}
-use Rattle.world.specs.Safe.{Has}
+use Rattle.world_laws.specs.World.Safe.{Has}
 use Rattle.world_recoveries.specs.Recovering.{ReplicaTold, top_of, WasSent, Informs, Updates, Agrees, StillTrue, InfoFits, UpdateFits, NoUpdates, HasId, LeadFits, SendsFits, IsPlacedIn, Recovering}
 use Rattle.world_recoveries.specs.Telling.{TellsNow, TellsFrom}
 use Rattle.world_recoveries.proofs.Histories.{split-get, begins-get, first-once, agrees-later, info-later, update-later, was-sent-later, lead-later, sends-later, NewDown, was_sent, is_sent, is_dialled, new-down}

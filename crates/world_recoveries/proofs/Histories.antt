@@ -7,12 +7,12 @@ use Rattle.name_core.specs.declared.calls.OfficeAnswer.TheVariants as office
 use Rattle.op_headers.specs.declared.ops.Op.TheVariants as op
 use Rattle.op_headers.specs.declared.ops.RecoveryOp.{RecoveryOp}
 use Rattle.op_headers.specs.declared.ops.RecoveryKind.TheVariants as kind
-use Rattle.recovery_core.specs.declared.primary.Phase.{Phase}
-use Rattle.recovery_core.specs.declared.primary.Phase.TheVariants as phase
-use Rattle.recovery_core.specs.Primaries.{request_of}
-use Rattle.world.specs.Parts.{Message, request, recovery_answer, Dialled, Updated, Told, Leading, Primary, no_primary, was_told, leads, has_led}
-use Rattle.world.specs.Worlds.{Past, World, Dial, Change, dial_at, listed, past_after}
-use Rattle.world.specs.Safe.{Has}
+use Rattle.world_laws.specs.RecoveryCore.Phase.{Phase}
+use Rattle.world_laws.specs.RecoveryCore.Phase.TheVariants as phase
+use Rattle.world_laws.specs.RecoveryCore.Primaries.{request_of}
+use Rattle.world_laws.specs.World.Parts.{Message, request, recovery_answer, Dialled, Updated, Told, Leading, Primary, no_primary, was_told, leads, has_led}
+use Rattle.world_laws.specs.World.Worlds.{Past, World, Dial, Change, dial_at, listed, past_after}
+use Rattle.world_laws.specs.World.Safe.{Has}
 use Rattle.world_laws.specs.Growing.{Begins, Grows}
 use Rattle.world_laws.specs.Stamping.{Givens}
 use Rattle.world_laws.proofs.ByteFrame.{dial-place}

@@ -26,8 +26,8 @@ use Rattle.replica_core.specs.Sound.{Sound, IsWritable}
 use Rattle.replica_core.specs.Transitions.{Outcome, done, record_after, state_after, transition, present, with_writer, set_writer, new_transition, packet_transition, extent_transition, acknowledge, oldest_of, stream_by, is_written_by}
 use Rattle.replica_core.proofs.InfoLemmas.{present_is, reopen_is, recover_setup_is, recover_stream_is, begin_recovery_is, end_recovery_is}
 use Rattle.replica_core.proofs.StepLemmas.{after_check, after_step, choice}
-use Rattle.replica_model.specs.declared.events.ReplicaEvent.{ReplicaEvent}
-use Rattle.replica_model.specs.Rows.{FullReplica, row, event_at}
+use Rattle.world_laws.specs.ReplicaModel.ReplicaEvent.{ReplicaEvent}
+use Rattle.world_laws.specs.ReplicaModel.Rows.{FullReplica, row, event_at}
 use Rattle.world_laws.proofs.ByteRows.{reopen-stamp, setup-stamp, stream-stamp, begin-stamp, update-held}
 use Rattle.world_recoveries.specs.Recovering.{ReplicaTold, top_under, top_of, StillTrue}
 

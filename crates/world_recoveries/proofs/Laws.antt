@@ -3,10 +3,10 @@ use Rattle.std.proofs.Common.{◌≡◌, ℕ, ◌≤◌, List, Some, sym, ◌∙
 use Rattle.std.proofs.lemmas.Option.{same_Some}
 use Rattle.hd_base.specs.declared.states.ReplicaState.TheVariants as state
 use Rattle.replica_core.specs.declared.info.ReplicaInfo.{ReplicaInfo}
-use Rattle.world.specs.declared.events.Event.{Event}
-use Rattle.world.specs.Parts.{Place}
-use Rattle.world.specs.Worlds.{World, start}
-use Rattle.world.specs.Events.{run}
+use Rattle.world_laws.specs.World.Event.{Event}
+use Rattle.world_laws.specs.World.Parts.{Place}
+use Rattle.world_laws.specs.World.Worlds.{World, start}
+use Rattle.world_laws.specs.World.Events.{run}
 use Rattle.world_laws.specs.Stamping.{Givens, none_given, given_in}
 use Rattle.world_recoveries.specs.Recovering.{StillTrue, UpdateFits, Recovering, OneLength, UpdatesKeepFinalized}
 use Rattle.world_recoveries.proofs.AllRecovering.{all-recovering}

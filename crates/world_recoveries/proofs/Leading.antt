@@ -21,20 +21,20 @@ use Rattle.op_headers.specs.declared.answers.RecoveryAnswer.{RecoveryAnswer}
 use Rattle.op_headers.specs.declared.ops.Op.TheVariants as op
 use Rattle.op_headers.specs.declared.ops.RecoveryOp.{RecoveryOp}
 use Rattle.op_headers.specs.declared.ops.RecoveryKind.TheVariants as kind
-use Rattle.recovery_core.specs.declared.primary.OwnStep.TheVariants as own
-use Rattle.recovery_core.specs.declared.primary.Phase.{Phase}
-use Rattle.recovery_core.specs.declared.primary.Recovered.{Recovered}
-use Rattle.recovery_core.specs.declared.standings.Heard.{Heard}
-use Rattle.recovery_core.specs.declared.standings.Heard.TheVariants as heard
-use Rattle.recovery_core.specs.declared.standings.Standing.{Standing}
-use Rattle.recovery_core.specs.declared.standings.Standing.TheVariants as standing
-use Rattle.recovery_core.specs.Primaries.{PrimaryState, told, is_success, after_heard, heard_as, heard_at, asked, begun_with, infos, is_among, when_chosen, after_choice, all_after_choice, own_step, request_of, sync_call}
-use Rattle.replica_model.specs.Rows.{FullReplica}
-use Rattle.world.specs.Parts.{Message, request, packet, ack, response, read_status, recovery_answer, Place, Dialled, by_primary, Updated, Told, Leading, Primary, no_primary, was_told, leads, has_led}
-use Rattle.world.specs.Worlds.{Past, World, Dial, Change, put, dial_at, dialled_with, past_after}
-use Rattle.world.specs.Connections.{Next, message, the_end, place_of, is_conn}
-use Rattle.world.specs.Primaries.{dials_answered, numbered, primary_dials, leading, begins_with, updates_on, updates_change, heard_of, asks_primary}
-use Rattle.world.specs.Safe.{Has}
+use Rattle.world_laws.specs.RecoveryCore.OwnStep.TheVariants as own
+use Rattle.world_laws.specs.RecoveryCore.Phase.{Phase}
+use Rattle.world_laws.specs.RecoveryCore.Recovered.{Recovered}
+use Rattle.world_laws.specs.RecoveryCore.Heard.{Heard}
+use Rattle.world_laws.specs.RecoveryCore.Heard.TheVariants as heard
+use Rattle.world_laws.specs.RecoveryCore.Standing.{Standing}
+use Rattle.world_laws.specs.RecoveryCore.Standing.TheVariants as standing
+use Rattle.world_laws.specs.RecoveryCore.Primaries.{PrimaryState, told, is_success, after_heard, heard_as, heard_at, asked, begun_with, infos, is_among, when_chosen, after_choice, all_after_choice, own_step, request_of, sync_call}
+use Rattle.world_laws.specs.ReplicaModel.Rows.{FullReplica}
+use Rattle.world_laws.specs.World.Parts.{Message, request, packet, ack, response, read_status, recovery_answer, Place, Dialled, by_primary, Updated, Told, Leading, Primary, no_primary, was_told, leads, has_led}
+use Rattle.world_laws.specs.World.Worlds.{Past, World, Dial, Change, put, dial_at, dialled_with, past_after}
+use Rattle.world_laws.specs.World.Connections.{Next, message, the_end, place_of, is_conn}
+use Rattle.world_laws.specs.World.Primaries.{dials_answered, numbered, primary_dials, leading, begins_with, updates_on, updates_change, heard_of, asks_primary}
+use Rattle.world_laws.specs.World.Safe.{Has}
 use Rattle.world_laws.proofs.FactTables.{if-each, and-left, and-right}
 use Rattle.world_laws.specs.Stamping.{Givens}
 use Rattle.world_laws.proofs.StampGivens.{put-here}

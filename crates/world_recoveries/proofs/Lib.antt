@@ -12,3 +12,4 @@ pub mod Laws
 pub mod AllNaming
 pub mod Naming
 pub mod Telling
+pub mod WorldLaws

@@ -16,8 +16,8 @@ use Rattle.op_headers.specs.declared.ops.RecoveryKind.{RecoveryKind}
 use Rattle.op_headers.specs.declared.ops.RecoveryKind.TheVariants as kind
 use Rattle.op_headers.specs.declared.ops.RecoveryOp.{RecoveryOp}
 use Rattle.op_headers.specs.Values.{WriteFields}
-use Rattle.node_refs.specs.NodeRefs.{ref_of}
-use Rattle.packet_codec.specs.declared.packets.Packet.{Packet}
+use Rattle.world_laws.specs.NodeRefs.NodeRefs.{ref_of}
+use Rattle.world_laws.specs.PacketCodec.Packet.{Packet}
 use Rattle.replica_core.specs.declared.events.Answer.{Answer}
 use Rattle.replica_core.specs.declared.events.Answer.TheVariants as answer
 use Rattle.replica_core.specs.declared.events.Event.{Event}
@@ -30,27 +30,27 @@ use Rattle.replica_core.specs.Transitions as core
 use Rattle.replica_core.specs.Views.{rule_in, written_in}
 use Rattle.replica_core.proofs.InfoLemmas.{present_is, begin_recovery_is, end_recovery_is}
 use Rattle.replica_core.proofs.StepLemmas.{if_step}
-use Rattle.replica_model.specs.declared.events.ReplicaEvent.{ReplicaEvent}
-use Rattle.replica_model.specs.declared.events.ReplicaEvent.TheVariants as replica_event
-use Rattle.replica_model.specs.Rows.{FullReplica, row, broken}
-use Rattle.request_refusals.specs.declared.refusals.RequestRefusal.{RequestRefusal}
-use Rattle.request_refusals.specs.declared.refusals.RequestRefusal.TheVariants as request_refusal
-use Rattle.request_refusals.specs.Pools.{is_in_pool}
-use Rattle.member_core.specs.declared.member.Mirror.{Mirror}
-use Rattle.member_core.specs.declared.member.Mirror.TheVariants as mirror
-use Rattle.member_core.specs.declared.turns.Turn.{Turn}
-use Rattle.member_core.specs.Members.{MemberState, down_turn, up_turn, hears}
-use Rattle.member_core.specs.Requests.{mirror_request, request_event}
-use Rattle.member_core.specs.Steps.{Step, Setup, step, faulted_step, replica_after, request_at, request_step, booked_request, faulted_request, oldest_at, ready_turn_at}
-use Rattle.read_core.specs.Servings.{ServingState, read_at, read_event, next_call, piece_at}
-use Rattle.recovery_core.specs.declared.members.RecoveryReply.{RecoveryReply}
-use Rattle.recovery_core.specs.declared.members.RecoveryReply.TheVariants as reply
-use Rattle.recovery_core.specs.Members.{Served, no_recovery, step_event, recovery_event, reply_to, answer_of, served_as, serve_faulted}
-use Rattle.world.specs.Parts.{Message, request, packet, ack, response, read_status, recovery_answer, by_member, by_primary, Dialled, FullMember, Lower, idle, writes, serves, recovers, ended_below, Break, Place, Updated}
-use Rattle.world.specs.Worlds.{Past, World, Dial, Change, past_after}
-use Rattle.world.specs.Connections.{Next, message, the_end, is_alive, sent_on}
-use Rattle.world.specs.Nodes.{node_of, replica_at, block_of, broke_at, closing, unless_failing, above_of, below_of, sent_up, passed, member_change, failing_turn, turn_change, pending_at, takes_next, member_down, member_up, ready_change, mirror_node, is_asked, mirror_dial, dials_of, member_dials, setup_change, failing_write, write_request, read_change, failing_read, read_request, piece_as, serve_change, updated_by, recovery_change, failing_recovery, recovery_request, first_message, next_recovery, lower_down, lower_ready, mirror_up}
-use Rattle.world.specs.Safe.{Has}
+use Rattle.world_laws.specs.ReplicaModel.ReplicaEvent.{ReplicaEvent}
+use Rattle.world_laws.specs.ReplicaModel.ReplicaEvent.TheVariants as replica_event
+use Rattle.world_laws.specs.ReplicaModel.Rows.{FullReplica, row, broken}
+use Rattle.world_laws.specs.RequestRefusals.RequestRefusal.{RequestRefusal}
+use Rattle.world_laws.specs.RequestRefusals.RequestRefusal.TheVariants as request_refusal
+use Rattle.world_laws.specs.RequestRefusals.Pools.{is_in_pool}
+use Rattle.world_laws.specs.MemberCore.Mirror.{Mirror}
+use Rattle.world_laws.specs.MemberCore.Mirror.TheVariants as mirror
+use Rattle.world_laws.specs.MemberCore.Turn.{Turn}
+use Rattle.world_laws.specs.MemberCore.Members.{MemberState, down_turn, up_turn, hears}
+use Rattle.world_laws.specs.MemberCore.Requests.{mirror_request, request_event}
+use Rattle.world_laws.specs.MemberCore.Steps.{Step, Setup, step, faulted_step, replica_after, request_at, request_step, booked_request, faulted_request, oldest_at, ready_turn_at}
+use Rattle.world_laws.specs.ReadCore.Servings.{ServingState, read_at, read_event, next_call, piece_at}
+use Rattle.world_laws.specs.RecoveryCore.RecoveryReply.{RecoveryReply}
+use Rattle.world_laws.specs.RecoveryCore.RecoveryReply.TheVariants as reply
+use Rattle.world_laws.specs.RecoveryCore.Members.{Served, no_recovery, step_event, recovery_event, reply_to, answer_of, served_as, serve_faulted}
+use Rattle.world_laws.specs.World.Parts.{Message, request, packet, ack, response, read_status, recovery_answer, by_member, by_primary, Dialled, FullMember, Lower, idle, writes, serves, recovers, ended_below, Break, Place, Updated}
+use Rattle.world_laws.specs.World.Worlds.{Past, World, Dial, Change, past_after}
+use Rattle.world_laws.specs.World.Connections.{Next, message, the_end, is_alive, sent_on}
+use Rattle.world_laws.specs.World.Nodes.{node_of, replica_at, block_of, broke_at, closing, unless_failing, above_of, below_of, sent_up, passed, member_change, failing_turn, turn_change, pending_at, takes_next, member_down, member_up, ready_change, mirror_node, is_asked, mirror_dial, dials_of, member_dials, setup_change, failing_write, write_request, read_change, failing_read, read_request, piece_as, serve_change, updated_by, recovery_change, failing_recovery, recovery_request, first_message, next_recovery, lower_down, lower_ready, mirror_up}
+use Rattle.world_laws.specs.World.Safe.{Has}
 use Rattle.world_laws.proofs.FactTables.{if-each, when-each, some-weaker}
 use Rattle.world_laws.specs.Stamping.{Givens}
 use Rattle.world_laws.specs.Carrying.{new_stamp, Sets, MemberSays, LowerSays, Holds}

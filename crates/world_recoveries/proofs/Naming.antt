@@ -19,18 +19,18 @@ use Rattle.name_core.proofs.BlockLemmas.{same_or_other, record_of-with_record_sa
 use Rattle.name_core.proofs.CaseLemmas.{each_case}
 use Rattle.op_headers.specs.declared.ops.Op.TheVariants as op
 use Rattle.op_headers.specs.declared.ops.RecoveryOp.{RecoveryOp}
-use Rattle.writer_core.specs.declared.phases.Phase.{Phase}
-use Rattle.writer_core.specs.declared.phases.Phase.TheVariants as phase
-use Rattle.writer_core.specs.declared.phases.Setup.{Setup}
-use Rattle.writer_core.specs.declared.records.WriterRecord.{WriterRecord}
-use Rattle.writer_core.specs.Laws.{Grants, IsGiven}
-use Rattle.writer_core.specs.Transitions.{granted}
-use Rattle.writer_core.proofs.StampLemmas.{only_the_office_commits}
-use Rattle.world.specs.Parts.{request, Answered, Told, Writing, Primary, no_primary, was_told, leads, has_led}
-use Rattle.world.specs.Worlds.{World, Dial, Change, Stamped, put, listed, apply}
-use Rattle.world.specs.Primaries.{stamped_by}
+use Rattle.world_laws.specs.WriterCore.Phase.{Phase}
+use Rattle.world_laws.specs.WriterCore.Phase.TheVariants as phase
+use Rattle.world_laws.specs.WriterCore.Setup.{Setup}
+use Rattle.world_laws.specs.WriterCore.WriterRecord.{WriterRecord}
+use Rattle.world_laws.specs.WriterCore.Laws.{Grants, IsGiven}
+use Rattle.world_laws.specs.WriterCore.Transitions.{granted}
+use Rattle.world_laws.proofs.WriterCore.StampLemmas.{only_the_office_commits}
+use Rattle.world_laws.specs.World.Parts.{request, Answered, Told, Writing, Primary, no_primary, was_told, leads, has_led}
+use Rattle.world_laws.specs.World.Worlds.{World, Dial, Change, Stamped, put, listed, apply}
+use Rattle.world_laws.specs.World.Primaries.{stamped_by}
 use Rattle.world_laws.proofs.Sessions.{refused-stamp}
-use Rattle.world.specs.Safe.{Has}
+use Rattle.world_laws.specs.World.Safe.{Has}
 use Rattle.world_laws.proofs.FactTables.{if-each, put-each, some-weaker}
 use Rattle.world_laws.proofs.OfficeSteps.{AsksAs, IsPrimarys}
 use Rattle.world_laws.proofs.SetupNodes.{has-split}

@@ -7,19 +7,19 @@ use Rattle.op_headers.specs.declared.ops.Op.{Op}
 use Rattle.op_headers.specs.declared.ops.Op.TheVariants as op
 use Rattle.op_headers.specs.declared.ops.RecoveryOp.{RecoveryOp}
 use Rattle.op_headers.specs.Values.{WriteFields}
-use Rattle.member_core.specs.declared.effects.Upward.{Upward}
-use Rattle.member_core.specs.declared.effects.Upward.TheVariants as upward
-use Rattle.world.specs.Parts.{Message, request, packet, ack, response, read_status, recovery_answer, by_primary, Primary, Updated}
-use Rattle.world.specs.Worlds.{Past, World, Dial, Change, dial_at, listed, past_after, apply}
-use Rattle.world.specs.Connections.{sent_on}
-use Rattle.world.specs.Nodes.{sent_up}
+use Rattle.world_laws.specs.MemberCore.Upward.{Upward}
+use Rattle.world_laws.specs.MemberCore.Upward.TheVariants as upward
+use Rattle.world_laws.specs.World.Parts.{Message, request, packet, ack, response, read_status, recovery_answer, by_primary, Primary, Updated}
+use Rattle.world_laws.specs.World.Worlds.{Past, World, Dial, Change, dial_at, listed, past_after, apply}
+use Rattle.world_laws.specs.World.Connections.{sent_on}
+use Rattle.world_laws.specs.World.Nodes.{sent_up}
 use Rattle.world_laws.proofs.FactTables.{some-weaker}
 use Rattle.world_laws.specs.Stamping.{Givens}
 use Rattle.world_laws.specs.Carrying.{Sets, Recovers, RecoverySays, Carried}
 use Rattle.world_laws.proofs.ByteFrame.{Each, each-nil, each-one, each-cons, past-grows}
 use Rattle.world_laws.proofs.ByteLeaves.{Facts, sent-if}
 use Rattle.world_laws.proofs.SetupNodes.{get-more}
-use Rattle.world.specs.Safe.{Has}
+use Rattle.world_laws.specs.World.Safe.{Has}
 use Rattle.world_recoveries.specs.Recovering.{Updates, LeadFits, HasId, SendsFits, IsPlacedIn, Recovering}
 use Rattle.world_recoveries.proofs.Histories.{begins-get, was-sent-later, lead-later, sends-later, NewDown, was_sent, is_sent, is_dialled, new-down}
 use Rattle.world_recoveries.proofs.Holding.{Books, books-moves}

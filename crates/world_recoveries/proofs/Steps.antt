@@ -4,15 +4,15 @@ use Rattle.std.specs.Prelude.{◌==◌, ◌&&◌, is_none, slice_get}
 use Rattle.hd_base.specs.declared.numbers.BlockId.{BlockId}
 use Rattle.hd_base.specs.declared.numbers.NodeId.{NodeId}
 use Rattle.name_core.specs.declared.calls.OfficeAnswer.TheVariants as office
-use Rattle.recovery_core.specs.declared.primary.OwnStep.{OwnStep}
-use Rattle.recovery_core.specs.declared.primary.OwnStep.TheVariants as own
-use Rattle.recovery_core.specs.declared.standings.Standing.{Standing}
-use Rattle.recovery_core.specs.Primaries.{own_step, office_refused, end_with}
-use Rattle.world.specs.Parts.{Place, by_primary, Told, Leading, Primary, no_primary, was_told, leads, has_led}
-use Rattle.world.specs.Worlds.{World, Change}
-use Rattle.world.specs.Connections.{Next, is_alive, place_of}
-use Rattle.world.specs.Clients.{are_members}
-use Rattle.world.specs.Primaries.{primary_change, begins_as, begins_at, own_recover, ends_change, leads_step, commits_step, leads_told, own_primary_as, own_primary, listens, hears_change, primary_up_as, primary_up, primary_commits, primary_asks}
+use Rattle.world_laws.specs.RecoveryCore.OwnStep.{OwnStep}
+use Rattle.world_laws.specs.RecoveryCore.OwnStep.TheVariants as own
+use Rattle.world_laws.specs.RecoveryCore.Standing.{Standing}
+use Rattle.world_laws.specs.RecoveryCore.Primaries.{own_step, office_refused, end_with}
+use Rattle.world_laws.specs.World.Parts.{Place, by_primary, Told, Leading, Primary, no_primary, was_told, leads, has_led}
+use Rattle.world_laws.specs.World.Worlds.{World, Change}
+use Rattle.world_laws.specs.World.Connections.{Next, is_alive, place_of}
+use Rattle.world_laws.specs.World.Clients.{are_members}
+use Rattle.world_laws.specs.World.Primaries.{primary_change, begins_as, begins_at, own_recover, ends_change, leads_step, commits_step, leads_told, own_primary_as, own_primary, listens, hears_change, primary_up_as, primary_up, primary_commits, primary_asks}
 use Rattle.world_laws.proofs.FactTables.{when-each, and-left}
 use Rattle.world_laws.specs.Stamping.{Givens}
 use Rattle.world_laws.proofs.ByteLeaves.{Facts}

@@ -3,9 +3,9 @@ use Rattle.std.proofs.Common.{◌≡◌, ℕ, ◌≤◌, Some, sym, ◌∙◌, a
 use Rattle.std.proofs.lemmas.Option.{same_Some}
 use Rattle.hd_base.specs.declared.numbers.Stamp.{Stamp}
 use Rattle.replica_core.specs.declared.info.ReplicaInfo.{ReplicaInfo}
-use Rattle.world.specs.Parts.{Place, Updated}
-use Rattle.world.specs.Worlds.{World}
-use Rattle.world.specs.Safe.{Has}
+use Rattle.world_laws.specs.World.Parts.{Place, Updated}
+use Rattle.world_laws.specs.World.Worlds.{World}
+use Rattle.world_laws.specs.World.Safe.{Has}
 use Rattle.world_laws.specs.Stamping.{Givens}
 use Rattle.world_recoveries.specs.Recovering.{ReplicaTold, top_of, StillTrue, Informs, Recovering}
 

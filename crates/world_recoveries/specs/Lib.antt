@@ -1,3 +1,9 @@
 pub mod Recovering
 pub mod Naming
 pub mod Telling
+pub mod NodeRefs
+pub mod PacketStream
+pub mod ReadCore
+pub mod RecoveryCore
+pub mod World
+pub mod WorldLaws

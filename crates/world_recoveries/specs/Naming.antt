@@ -8,11 +8,11 @@ use Rattle.name_core.specs.declared.records.BlockRecord.{BlockRecord}
 use Rattle.name_core.specs.Offices.{record_of}
 use Rattle.op_headers.specs.declared.ops.Op.TheVariants as op
 use Rattle.op_headers.specs.declared.ops.RecoveryOp.{RecoveryOp}
-use Rattle.world.specs.declared.events.Event.{Event}
-use Rattle.world.specs.Parts.{request, Answered, Told, Primary, no_primary, was_told, leads, has_led}
-use Rattle.world.specs.Worlds.{World, start}
-use Rattle.world.specs.Events.{run}
-use Rattle.world.specs.Safe.{Has}
+use Rattle.world_laws.specs.World.Event.{Event}
+use Rattle.world_laws.specs.World.Parts.{request, Answered, Told, Primary, no_primary, was_told, leads, has_led}
+use Rattle.world_laws.specs.World.Worlds.{World, start}
+use Rattle.world_laws.specs.World.Events.{run}
+use Rattle.world_laws.specs.World.Safe.{Has}
 use Rattle.world_laws.specs.Stamping.{Givens, none_given, given_in, heard}
 use Rattle.world_recoveries.specs.Recovering.{ReplicaTold, Informs}
 

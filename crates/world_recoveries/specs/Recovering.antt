@@ -10,15 +10,15 @@ use Rattle.op_headers.specs.declared.ops.RecoveryOp.{RecoveryOp}
 use Rattle.op_headers.specs.declared.ops.RecoveryKind.TheVariants as kind
 use Rattle.name_core.specs.declared.calls.OfficeAnswer.TheVariants as office
 use Rattle.replica_core.specs.declared.info.ReplicaInfo.{ReplicaInfo}
-use Rattle.recovery_core.specs.declared.primary.Phase.{Phase}
-use Rattle.recovery_core.specs.declared.primary.Phase.TheVariants as phase
-use Rattle.recovery_core.specs.declared.standings.Standing.TheVariants as standing
-use Rattle.recovery_core.specs.Primaries.{request_of}
-use Rattle.world.specs.declared.events.Event.{Event}
-use Rattle.world.specs.Parts.{request, recovery_answer, by_primary, Updated, Told, Leading, Primary, no_primary, was_told, leads, has_led}
-use Rattle.world.specs.Worlds.{Past, World, start}
-use Rattle.world.specs.Events.{run}
-use Rattle.world.specs.Safe.{Has}
+use Rattle.world_laws.specs.RecoveryCore.Phase.{Phase}
+use Rattle.world_laws.specs.RecoveryCore.Phase.TheVariants as phase
+use Rattle.world_laws.specs.RecoveryCore.Standing.TheVariants as standing
+use Rattle.world_laws.specs.RecoveryCore.Primaries.{request_of}
+use Rattle.world_laws.specs.World.Event.{Event}
+use Rattle.world_laws.specs.World.Parts.{request, recovery_answer, by_primary, Updated, Told, Leading, Primary, no_primary, was_told, leads, has_led}
+use Rattle.world_laws.specs.World.Worlds.{Past, World, start}
+use Rattle.world_laws.specs.World.Events.{run}
+use Rattle.world_laws.specs.World.Safe.{Has}
 use Rattle.world_laws.specs.Stamping.{Givens, none_given, given_in}
 use Rattle.world_laws.specs.Joining.{joined_as, AtLeast}
 

@@ -2,9 +2,9 @@
 use Rattle.std.specs.Prelude.{ℕ, ◌≡◌, ◌<◌, ◌⊎◌, Bool, true, false, Some}
 use Rattle.hd_base.specs.declared.numbers.Stamp.{Stamp}
 use Rattle.replica_core.specs.declared.info.ReplicaInfo.{ReplicaInfo}
-use Rattle.replica_model.specs.Rows.{FullReplica}
-use Rattle.world.specs.Parts.{Place}
-use Rattle.world.specs.Worlds.{Past, World}
+use Rattle.world_laws.specs.ReplicaModel.Rows.{FullReplica}
+use Rattle.world_laws.specs.World.Parts.{Place}
+use Rattle.world_laws.specs.World.Worlds.{Past, World}
 use Rattle.world_recoveries.specs.Recovering.{ReplicaTold, top_of, Informs}
 
 -- This is told of a replica that isn't broken, to a recovery whose id is above its stamp, and above that of the one

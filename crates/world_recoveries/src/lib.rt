@@ -2,12 +2,12 @@
 //! events.
 #![tactic(auto)]
 
-ghost use Rattle.world.specs.Worlds.{start};
-ghost use Rattle.world.specs.Events.{run};
+ghost use Rattle.world_laws.specs.World.Worlds.{start};
+ghost use Rattle.world_laws.specs.World.Events.{run};
 ghost use Rattle.world_recoveries.specs.Naming.{AllNaming, NoneStale};
 ghost use Rattle.world_recoveries.specs.Recovering.{AllRecovering, OneLength, UpdatesKeepFinalized};
 
-use world::Schedule;
+use world_laws::Schedule;
 
 /// A recovery has one primary, and one length; what a member told of its replica stays true of it while that recovery
 /// holds it in that life; and an UPDATE goes only to nodes that told of their replicas, with a length that fits what

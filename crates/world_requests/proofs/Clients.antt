@@ -9,26 +9,26 @@ use Rattle.hd_base.specs.declared.roads.TheConstants.{FIRST_PORT}
 use Rattle.op_headers.specs.declared.nodes.NodeRef.{NodeRef}
 use Rattle.op_headers.specs.declared.ops.Op.{Op}
 use Rattle.op_headers.specs.declared.ops.ReadOp.{ReadOp}
-use Rattle.node_refs.specs.NodeRefs.{port_of, ref_of}
-use Rattle.packet_stream.specs.Streams.{StreamState}
-use Rattle.writer_core.specs.declared.actions.Action.{Action}
-use Rattle.writer_core.specs.declared.actions.Action.TheVariants as action
-use Rattle.writer_core.specs.declared.commands.Command.{Command}
-use Rattle.writer_core.specs.declared.phases.Phase.{Phase}
-use Rattle.writer_core.specs.declared.phases.Phase.TheVariants as phase
-use Rattle.writer_core.specs.declared.phases.Setup.{Setup}
-use Rattle.writer_core.specs.declared.phases.Waiting.{Waiting}
-use Rattle.writer_core.specs.declared.records.WriterRecord.{WriterRecord}
-use Rattle.writer_core.specs.Requests.{request_for}
-use Rattle.writer_core.specs.Transitions.{Step, given, own_step, dial_step_as, open_step, completed_step, dialled}
-use Rattle.read_core.specs.declared.reading.ReadTurn.{ReadTurn}
-use Rattle.read_core.specs.declared.reading.ReadTurn.TheVariants as turn
-use Rattle.read_core.specs.Readings.{ReadTaken, take_from}
-use Rattle.world.specs.declared.events.TakenCommand.{TakenCommand}
-use Rattle.world.specs.Parts.{request, packet, Told, Reader, no_reader, reads, has_read}
-use Rattle.world.specs.Worlds.{World}
-use Rattle.world.specs.Connections.{Next, is_conn}
-use Rattle.world.specs.Clients.{writer_change, did, did_step, dialled_change, dialling, rest_in, is_formed, ruled, command_bytes, is_empty, takes_given, takes_command, writer_step, own_writer, writer_hears, writer_up, reader_change, reader_dials, own_reader_as, own_reader, from_node_of, reader_turn, reader_up_as, reader_up}
+use Rattle.world_laws.specs.NodeRefs.NodeRefs.{port_of, ref_of}
+use Rattle.world_laws.specs.PacketStream.Streams.{StreamState}
+use Rattle.world_laws.specs.WriterCore.Action.{Action}
+use Rattle.world_laws.specs.WriterCore.Action.TheVariants as action
+use Rattle.world_laws.specs.WriterCore.Command.{Command}
+use Rattle.world_laws.specs.WriterCore.Phase.{Phase}
+use Rattle.world_laws.specs.WriterCore.Phase.TheVariants as phase
+use Rattle.world_laws.specs.WriterCore.Setup.{Setup}
+use Rattle.world_laws.specs.WriterCore.Waiting.{Waiting}
+use Rattle.world_laws.specs.WriterCore.WriterRecord.{WriterRecord}
+use Rattle.world_laws.specs.WriterCore.Requests.{request_for}
+use Rattle.world_laws.specs.WriterCore.Transitions.{Step, given, own_step, dial_step_as, open_step, completed_step, dialled}
+use Rattle.world_laws.specs.ReadCore.ReadTurn.{ReadTurn}
+use Rattle.world_laws.specs.ReadCore.ReadTurn.TheVariants as turn
+use Rattle.world_laws.specs.ReadCore.Readings.{ReadTaken, take_from}
+use Rattle.world_laws.specs.World.TakenCommand.{TakenCommand}
+use Rattle.world_laws.specs.World.Parts.{request, packet, Told, Reader, no_reader, reads, has_read}
+use Rattle.world_laws.specs.World.Worlds.{World}
+use Rattle.world_laws.specs.World.Connections.{Next, is_conn}
+use Rattle.world_laws.specs.World.Clients.{writer_change, did, did_step, dialled_change, dialling, rest_in, is_formed, ruled, command_bytes, is_empty, takes_given, takes_command, writer_step, own_writer, writer_hears, writer_up, reader_change, reader_dials, own_reader_as, own_reader, from_node_of, reader_turn, reader_up_as, reader_up}
 use Rattle.world_laws.specs.Stamping.{known_heard, heard}
 use Rattle.world_laws.proofs.ByteFrame.{each-nil, each-one}
 use Rattle.world_laws.proofs.FactTables.{when-each}

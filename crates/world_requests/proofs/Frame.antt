@@ -3,9 +3,9 @@ use Rattle.std.proofs.Common.{◌≡◌, ℕ, ◌-◌, Bool, true, false, List, 
 use Rattle.std.specs.Prelude.{◌==◌, nat_le, if◌then◌else◌}
 use Rattle.std.proofs.lemmas.Option.{none-some}
 use Rattle.op_headers.specs.declared.ops.Op.TheVariants as op
-use Rattle.world.specs.Parts.{Message, request, Primary, leads}
-use Rattle.world.specs.Worlds.{World, Dial, Change, apply, listed, dial_at}
-use Rattle.world.specs.Connections.{Next, message, the_end, sent_on}
+use Rattle.world_laws.specs.World.Parts.{Message, request, Primary, leads}
+use Rattle.world_laws.specs.World.Worlds.{World, Dial, Change, apply, listed, dial_at}
+use Rattle.world_laws.specs.World.Connections.{Next, message, the_end, sent_on}
 use Rattle.world_laws.proofs.ByteFrame.{Each, each-nil, each-one, each-append}
 use Rattle.world_laws.proofs.FactTables.{if-each, put-each}
 use Rattle.world_requests.specs.Requests.{IsAsked}

@@ -3,3 +3,4 @@ pub mod Nodes
 pub mod Clients
 pub mod Primaries
 pub mod AllAsked
+pub mod WorldLaws

@@ -1,35 +1,35 @@
 -- What the lower ends of connections send.
 use Rattle.std.proofs.Common.{◌≡◌, ℕ, suc, Bool, true, false, List, [], ◌∷◌, slice_get, Option, Some, None, IfSome, Result, Ok, Err, refl, subst, sym}
 use Rattle.std.specs.Prelude.{nat_le}
-use Rattle.packet_codec.specs.declared.packets.Packet.{Packet}
+use Rattle.world_laws.specs.PacketCodec.Packet.{Packet}
 use Rattle.op_headers.specs.declared.nodes.NodeRef.{NodeRef}
 use Rattle.op_headers.specs.declared.ops.Op.TheVariants as op
 use Rattle.op_headers.specs.declared.ops.ReadOp.{ReadOp}
 use Rattle.op_headers.specs.declared.ops.RecoveryOp.{RecoveryOp}
 use Rattle.op_headers.specs.Values.{WriteFields}
-use Rattle.node_refs.specs.NodeRefs.{ref_of}
+use Rattle.world_laws.specs.NodeRefs.NodeRefs.{ref_of}
 use Rattle.replica_core.specs.declared.events.Event.{Event}
 use Rattle.replica_core.specs.Views.{rule_in}
-use Rattle.replica_model.specs.declared.events.ReplicaEvent.{ReplicaEvent}
-use Rattle.replica_model.specs.declared.events.ReplicaEvent.TheVariants as replica_event
-use Rattle.replica_model.specs.Rows.{FullReplica}
-use Rattle.request_refusals.specs.declared.refusals.RequestRefusal.{RequestRefusal}
-use Rattle.member_core.specs.declared.effects.Upward.{Upward}
-use Rattle.member_core.specs.declared.effects.Upward.TheVariants as upward
-use Rattle.member_core.specs.declared.member.Mirror.{Mirror}
-use Rattle.member_core.specs.declared.member.Mirror.TheVariants as mirror
-use Rattle.member_core.specs.declared.requests.TheConstants.{MAX_PORT}
-use Rattle.member_core.specs.declared.turns.Turn.{Turn}
-use Rattle.member_core.specs.Members.{MemberState, down_turn, up_turn, hears}
-use Rattle.member_core.specs.Requests.{request_event, request_from, request_to, mirror_request}
-use Rattle.member_core.specs.Steps.{Step, Setup, step, faulted_step, oldest_at, ready_turn_at, request_step, faulted_request}
-use Rattle.read_core.specs.Servings.{ServingState, accepting, refusing, faulted_read, faulted_piece, next_call, piece_at, read_at, read_event}
-use Rattle.recovery_core.specs.declared.members.RecoveryReply.{RecoveryReply}
-use Rattle.recovery_core.specs.Members.{Served, answer_of, recovery_event, serve, serve_faulted}
-use Rattle.world.specs.Parts.{Message, request, packet, ack, response, read_status, recovery_answer, FullMember, Lower, idle, writes, serves, recovers, ended_below, Break}
-use Rattle.world.specs.Worlds.{World}
-use Rattle.world.specs.Connections.{Next, message, the_end, is_alive}
-use Rattle.world.specs.Nodes.{replica_at, node_of, block_of, broke_at, is_asked, below_of, closing, unless_failing, above_of, sent_up, passed, member_change, failing_turn, turn_change, takes_next, pending_at, member_down, member_up, ready_change, mirror_dial, mirror_node, dials_of, member_dials, setup_change, failing_write, write_request, breaking, read_change, failing_read, read_request, piece_as, serve_change, recovery_change, failing_recovery, recovery_request, first_message, next_recovery, lower_down, lower_ready, mirror_up}
+use Rattle.world_laws.specs.ReplicaModel.ReplicaEvent.{ReplicaEvent}
+use Rattle.world_laws.specs.ReplicaModel.ReplicaEvent.TheVariants as replica_event
+use Rattle.world_laws.specs.ReplicaModel.Rows.{FullReplica}
+use Rattle.world_laws.specs.RequestRefusals.RequestRefusal.{RequestRefusal}
+use Rattle.world_laws.specs.MemberCore.Upward.{Upward}
+use Rattle.world_laws.specs.MemberCore.Upward.TheVariants as upward
+use Rattle.world_laws.specs.MemberCore.Mirror.{Mirror}
+use Rattle.world_laws.specs.MemberCore.Mirror.TheVariants as mirror
+use Rattle.world_laws.specs.MemberCore.TheConstants.{MAX_PORT}
+use Rattle.world_laws.specs.MemberCore.Turn.{Turn}
+use Rattle.world_laws.specs.MemberCore.Members.{MemberState, down_turn, up_turn, hears}
+use Rattle.world_laws.specs.MemberCore.Requests.{request_event, request_from, request_to, mirror_request}
+use Rattle.world_laws.specs.MemberCore.Steps.{Step, Setup, step, faulted_step, oldest_at, ready_turn_at, request_step, faulted_request}
+use Rattle.world_laws.specs.ReadCore.Servings.{ServingState, accepting, refusing, faulted_read, faulted_piece, next_call, piece_at, read_at, read_event}
+use Rattle.world_laws.specs.RecoveryCore.RecoveryReply.{RecoveryReply}
+use Rattle.world_laws.specs.RecoveryCore.Members.{Served, answer_of, recovery_event, serve, serve_faulted}
+use Rattle.world_laws.specs.World.Parts.{Message, request, packet, ack, response, read_status, recovery_answer, FullMember, Lower, idle, writes, serves, recovers, ended_below, Break}
+use Rattle.world_laws.specs.World.Worlds.{World}
+use Rattle.world_laws.specs.World.Connections.{Next, message, the_end, is_alive}
+use Rattle.world_laws.specs.World.Nodes.{replica_at, node_of, block_of, broke_at, is_asked, below_of, closing, unless_failing, above_of, sent_up, passed, member_change, failing_turn, turn_change, takes_next, pending_at, member_down, member_up, ready_change, mirror_dial, mirror_node, dials_of, member_dials, setup_change, failing_write, write_request, breaking, read_change, failing_read, read_request, piece_as, serve_change, recovery_change, failing_recovery, recovery_request, first_message, next_recovery, lower_down, lower_ready, mirror_up}
 use Rattle.world_laws.proofs.ByteFrame.{Each, each-nil, each-one}
 use Rattle.world_laws.proofs.FactTables.{if-each, when-each}
 use Rattle.world_requests.specs.Requests.{IsAsked}

@@ -6,26 +6,26 @@ use Rattle.hd_base.specs.declared.numbers.NodeId.{NodeId}
 use Rattle.name_core.specs.declared.calls.OfficeAnswer.TheVariants as office
 use Rattle.name_core.specs.declared.calls.OfficeCall.{OfficeCall}
 use Rattle.name_core.specs.declared.calls.OfficeCall.TheVariants as call
-use Rattle.recovery_core.specs.declared.primary.OwnStep.{OwnStep}
-use Rattle.recovery_core.specs.declared.primary.OwnStep.TheVariants as own
+use Rattle.world_laws.specs.RecoveryCore.OwnStep.{OwnStep}
+use Rattle.world_laws.specs.RecoveryCore.OwnStep.TheVariants as own
 use Rattle.name_core.specs.Offices.{answer_to}
 use Rattle.name_core.specs.declared.choice.ChooseFault.{ChooseFault}
 use Rattle.name_core.specs.declared.choice.Chosen.{Chosen}
-use Rattle.recovery_core.specs.declared.primary.Phase.{Phase}
-use Rattle.recovery_core.specs.declared.primary.Phase.TheVariants as phase
-use Rattle.recovery_core.specs.declared.standings.Heard.{Heard}
-use Rattle.recovery_core.specs.declared.standings.Standing.{Standing}
-use Rattle.recovery_core.specs.Primaries.{PrimaryState, OwnTaken, heard_as, choosing, committing, own_at, own_step, sync_call, is_among, taken, waits}
-use Rattle.writer_core.specs.declared.actions.Action.{Action}
-use Rattle.writer_core.specs.declared.actions.Action.TheVariants as action
-use Rattle.writer_core.specs.Transitions as writer
-use Rattle.world.specs.declared.events.Caller.{Caller}
-use Rattle.world.specs.declared.events.Caller.TheVariants as caller
-use Rattle.world.specs.Parts.{Message, Place, Told, Leading, Primary, no_primary, was_told, leads, has_led}
-use Rattle.world.specs.Worlds.{World}
-use Rattle.world.specs.Connections.{Next, is_alive, is_conn, place_of}
-use Rattle.world.specs.Clients.{are_members}
-use Rattle.world.specs.Primaries.{primary_change, dials_answered, primary_dials, begins_as, begins_at, own_recover, updates_on, heard_of, leads_step, commits_step, leads_told, own_primary_as, own_primary, listens, hears_change, primary_up_as, primary_up, asks_writer, asks_primary, writer_asks, primary_commits, primary_asks, office_event}
+use Rattle.world_laws.specs.RecoveryCore.Phase.{Phase}
+use Rattle.world_laws.specs.RecoveryCore.Phase.TheVariants as phase
+use Rattle.world_laws.specs.RecoveryCore.Heard.{Heard}
+use Rattle.world_laws.specs.RecoveryCore.Standing.{Standing}
+use Rattle.world_laws.specs.RecoveryCore.Primaries.{PrimaryState, OwnTaken, heard_as, choosing, committing, own_at, own_step, sync_call, is_among, taken, waits}
+use Rattle.world_laws.specs.WriterCore.Action.{Action}
+use Rattle.world_laws.specs.WriterCore.Action.TheVariants as action
+use Rattle.world_laws.specs.WriterCore.Transitions as writer
+use Rattle.world_laws.specs.World.Caller.{Caller}
+use Rattle.world_laws.specs.World.Caller.TheVariants as caller
+use Rattle.world_laws.specs.World.Parts.{Message, Place, Told, Leading, Primary, no_primary, was_told, leads, has_led}
+use Rattle.world_laws.specs.World.Worlds.{World}
+use Rattle.world_laws.specs.World.Connections.{Next, is_alive, is_conn, place_of}
+use Rattle.world_laws.specs.World.Clients.{are_members}
+use Rattle.world_laws.specs.World.Primaries.{primary_change, dials_answered, primary_dials, begins_as, begins_at, own_recover, updates_on, heard_of, leads_step, commits_step, leads_told, own_primary_as, own_primary, listens, hears_change, primary_up_as, primary_up, asks_writer, asks_primary, writer_asks, primary_commits, primary_asks, office_event}
 use Rattle.world_laws.proofs.ByteFrame.{Each, each-nil, each-one, each-cons}
 use Rattle.world_laws.proofs.FactTables.{if-each, when-each}
 use Rattle.world_requests.proofs.Frame.{Asking, to_recover, MessageIs, DialIs, PrimaryIs, PrimariesAre, Brings, quiet}

@@ -8,13 +8,13 @@ use Rattle.op_headers.specs.declared.ops.Op.TheVariants as op
 use Rattle.op_headers.specs.declared.ops.ReadOp.{ReadOp}
 use Rattle.op_headers.specs.declared.ops.RecoveryOp.{RecoveryOp}
 use Rattle.op_headers.specs.Values.{WriteFields}
-use Rattle.world.specs.declared.events.Event.{Event}
-use Rattle.world.specs.declared.events.Event.TheVariants as event
-use Rattle.world.specs.declared.events.OwnStep.TheVariants as own
-use Rattle.world.specs.Parts.{request}
-use Rattle.world.specs.Worlds.{World, start}
-use Rattle.world.specs.Nodes.{block_of}
-use Rattle.world.specs.Events.{run}
+use Rattle.world_laws.specs.World.Event.{Event}
+use Rattle.world_laws.specs.World.Event.TheVariants as event
+use Rattle.world_laws.specs.World.OwnStep.TheVariants as own
+use Rattle.world_laws.specs.World.Parts.{request}
+use Rattle.world_laws.specs.World.Worlds.{World, start}
+use Rattle.world_laws.specs.World.Nodes.{block_of}
+use Rattle.world_laws.specs.World.Events.{run}
 
 -- WRITERS, READERS AND PRIMARIES THAT ACT
 

@@ -3,9 +3,9 @@ use Rattle.std.proofs.Common.{◌≡◌, ℕ, Bool, true, false, Option, Some, N
 use Rattle.std.specs.Prelude.{nat_lt, is_none, not, ◌&&◌}
 use Rattle.std.proofs.lemmas.Bool.{false≢true}
 use Rattle.hd_base.specs.declared.numbers.BlockId.{BlockId}
-use Rattle.recovery_core.specs.declared.primary.OwnStep.{OwnStep}
-use Rattle.recovery_core.specs.declared.primary.OwnStep.TheVariants as primary_own
-use Rattle.recovery_core.specs.Primaries.{own_step}
+use Rattle.world.specs.RecoveryCore.OwnStep.{OwnStep}
+use Rattle.world.specs.RecoveryCore.OwnStep.TheVariants as primary_own
+use Rattle.world.specs.RecoveryCore.Primaries.{own_step}
 use Rattle.world.specs.declared.events.Caller.TheVariants as caller
 use Rattle.world.specs.declared.events.Delivery.{Delivery}
 use Rattle.world.specs.declared.events.Delivery.TheVariants as delivery
@@ -22,8 +22,8 @@ use Rattle.world.specs.Clients.{own_writer, writer_up, own_reader, reader_up}
 use Rattle.world.specs.Primaries.{own_recover, own_primary, primary_up, primary_commits, primary_asks, writer_asks_office}
 use Rattle.world.specs.Restarts.{restart}
 use Rattle.world.specs.Events.{changed, down_as, down_event, ready_event, unless_fails, upper_up, up_as, up_event, fault_event, lost, stop, where_so, outcome, after_event, happens}
-use Rattle.world_laws.proofs.FactTables.{put-each, when-each}
-use Rattle.world_laws.proofs.SessionAsides as writers
+use Rattle.world_texts.proofs.WorldLaws.FactTables.{put-each, when-each}
+use Rattle.world_texts.proofs.WorldLaws.SessionAsides as writers
 use Rattle.world_settling.specs.Draws.{actor_above, actor_of, is_writer, is_primary, WritersStay, PrimariesStay}
 use Rattle.world_settling.proofs.PrimaryAsides as primaries
 

@@ -10,10 +10,10 @@ use Rattle.op_headers.specs.Values.{WriteFields}
 use Rattle.replica_core.specs.declared.events.Event.{Event as CoreEvent}
 use Rattle.replica_model.specs.Rows.{FullReplica}
 use Rattle.request_refusals.specs.declared.refusals.RequestRefusal.{RequestRefusal}
-use Rattle.read_core.specs.Servings.{ServingState, next_call, read_at, read_event, piece_at}
+use Rattle.world.specs.ReadCore.Servings.{ServingState, next_call, read_at, read_event, piece_at}
 use Rattle.packet_codec.specs.declared.packets.Packet.{Packet}
-use Rattle.recovery_core.specs.declared.members.RecoveryReply.{RecoveryReply}
-use Rattle.recovery_core.specs.Members.{recovery_event}
+use Rattle.world.specs.RecoveryCore.RecoveryReply.{RecoveryReply}
+use Rattle.world.specs.RecoveryCore.Members.{recovery_event}
 use Rattle.world.specs.declared.events.Delivery.{Delivery}
 use Rattle.world.specs.declared.events.Delivery.TheVariants as delivery
 use Rattle.world.specs.declared.events.Direction.{Direction}

@@ -2,13 +2,13 @@
 use Rattle.std.proofs.Common.{◌≡◌, ℕ, ◌≤◌, ◌+◌, [], ◌∷◌, Option, Some, None, IfSome, refl, ap, arith}
 use Rattle.std.specs.Prelude.{◌==◌, ◌&&◌, is_none, slice_get}
 use Rattle.hd_base.specs.declared.states.Status.TheVariants as status
-use Rattle.read_core.specs.declared.reading.FromNode.TheVariants as from_node
-use Rattle.read_core.specs.declared.reading.ReadPhase.{ReadPhase}
-use Rattle.read_core.specs.declared.reading.ReadPhase.TheVariants as read_phase
-use Rattle.read_core.specs.declared.reading.ReadTurn.{ReadTurn}
-use Rattle.read_core.specs.declared.reading.ReadTurn.TheVariants as turn
-use Rattle.read_core.specs.Readings.{ReadingState, ReadTaken, taken_at, take_from}
-use Rattle.recovery_core.specs.declared.standings.Standing.{Standing}
+use Rattle.world.specs.ReadCore.FromNode.TheVariants as from_node
+use Rattle.world.specs.ReadCore.ReadPhase.{ReadPhase}
+use Rattle.world.specs.ReadCore.ReadPhase.TheVariants as read_phase
+use Rattle.world.specs.ReadCore.ReadTurn.{ReadTurn}
+use Rattle.world.specs.ReadCore.ReadTurn.TheVariants as turn
+use Rattle.world.specs.ReadCore.Readings.{ReadingState, ReadTaken, taken_at, take_from}
+use Rattle.world.specs.RecoveryCore.Standing.{Standing}
 use Rattle.world.specs.Parts.{Message, read_status, Leading, Primary, no_primary, was_told, leads, has_led, Reader, no_reader, reads, has_read}
 use Rattle.world.specs.Worlds.{World, Change, apply}
 use Rattle.world.specs.Connections.{Next, message, the_end, is_conn, is_alive}

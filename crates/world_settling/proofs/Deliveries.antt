@@ -18,11 +18,11 @@ use Rattle.world.specs.Clients.{writer_up, reader_up}
 use Rattle.world.specs.Primaries.{primary_up}
 use Rattle.world.specs.Events.{changed, down_as, down_event, ready_event, unless_fails, upper_up, up_as, up_event, fault_event, outcome, after_event, is_enabled, happens, run}
 use Rattle.replica_core.specs.declared.info.ReplicaInfo.{ReplicaInfo}
-use Rattle.world_laws.specs.Placing.{IsUpper}
-use Rattle.world_laws.proofs.PlacedLaws.{all-placed}
-use Rattle.world_laws.proofs.AllCarried.{all-carried}
-use Rattle.world_laws.proofs.FilledLaws.{all-filled}
-use Rattle.world_laws.proofs.RunLaws.{runs-end}
+use Rattle.world_texts.specs.WorldLaws.Placing.{IsUpper}
+use Rattle.world_texts.proofs.WorldLaws.PlacedLaws.{all-placed}
+use Rattle.world_texts.proofs.WorldLaws.AllCarried.{all-carried}
+use Rattle.world_texts.proofs.WorldLaws.FilledLaws.{all-filled}
+use Rattle.world_texts.proofs.WorldLaws.RunLaws.{runs-end}
 use Rattle.world_settling.specs.Traffic.{hops, traffic, is_delivery}
 use Rattle.world_settling.proofs.Frame.{HasFirst}
 use Rattle.world_settling.proofs.Outer.{when-each, named-keeps}

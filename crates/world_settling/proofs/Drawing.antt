@@ -15,7 +15,7 @@ use Rattle.world.specs.Worlds.{World, start}
 use Rattle.world.specs.Primaries.{writer_asks}
 use Rattle.world.specs.Events.{changed, outcome, is_enabled, happens, run}
 use Rattle.world_texts.specs.Texts.{AllFit}
-use Rattle.world_laws.proofs.FactTables.{and-left, and-right}
+use Rattle.world_texts.proofs.WorldLaws.FactTables.{and-left, and-right}
 use Rattle.world_settling.specs.Traffic.{sum_to, traffic, is_delivery}
 use Rattle.world_settling.specs.Measure.{given_weight, writer_weight, LowersBoth}
 use Rattle.world_settling.specs.Leading.{read_weight, recovery_weight, primary_weight, LowersLeading}

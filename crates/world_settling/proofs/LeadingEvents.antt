@@ -3,8 +3,8 @@ use Rattle.std.proofs.Common.{◌≡◌, ℕ, ◌<◌, ◌≤◌, ◌+◌, true,
 use Rattle.std.specs.Prelude.{is_some, nat_lt}
 use Rattle.std.proofs.lemmas.Bool.Decides.{nat_tests}
 use Rattle.std.proofs.lemmas.Bool.{false≢true}
-use Rattle.world_laws.proofs.PlacedLaws.{all-placed}
-use Rattle.world_laws.proofs.RunLaws.{runs-end}
+use Rattle.world_texts.proofs.WorldLaws.PlacedLaws.{all-placed}
+use Rattle.world_texts.proofs.WorldLaws.RunLaws.{runs-end}
 use Rattle.world.specs.declared.events.Caller.TheVariants as caller
 use Rattle.world.specs.declared.events.Event.{Event}
 use Rattle.world.specs.declared.events.Event.TheVariants as event

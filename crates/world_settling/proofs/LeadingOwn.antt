@@ -12,12 +12,12 @@ use Rattle.name_core.specs.declared.calls.OfficeCall.{OfficeCall}
 use Rattle.name_core.specs.declared.calls.OfficeCall.TheVariants as call
 use Rattle.name_core.specs.declared.choice.Chosen.{Chosen}
 use Rattle.name_core.specs.Offices.{answer_to}
-use Rattle.recovery_core.specs.declared.primary.OwnStep.{OwnStep}
-use Rattle.recovery_core.specs.declared.primary.OwnStep.TheVariants as own
-use Rattle.recovery_core.specs.declared.primary.Recovered.{Recovered}
-use Rattle.recovery_core.specs.declared.standings.Standing.{Standing}
-use Rattle.recovery_core.specs.Primaries.{PrimaryState, begun_with, end_with, heard_at, office_refused, own_step, request_of, sync_call}
-use Rattle.world_laws.specs.Placing.{IsUndialled}
+use Rattle.world.specs.RecoveryCore.OwnStep.{OwnStep}
+use Rattle.world.specs.RecoveryCore.OwnStep.TheVariants as own
+use Rattle.world.specs.RecoveryCore.Recovered.{Recovered}
+use Rattle.world.specs.RecoveryCore.Standing.{Standing}
+use Rattle.world.specs.RecoveryCore.Primaries.{PrimaryState, begun_with, end_with, heard_at, office_refused, own_step, request_of, sync_call}
+use Rattle.world_texts.specs.WorldLaws.Placing.{IsUndialled}
 use Rattle.world.specs.Parts.{Message, request, Place, Told, Leading, Primary, no_primary, was_told, leads, has_led}
 use Rattle.world.specs.Worlds.{World, Dial, Change, apply}
 use Rattle.world.specs.Connections.{Next, is_alive, place_of}

@@ -5,13 +5,13 @@ use Rattle.hd_base.specs.declared.numbers.NodeId.{NodeId}
 use Rattle.name_core.specs.declared.choice.ChooseFault.{ChooseFault}
 use Rattle.name_core.specs.declared.choice.Chosen.{Chosen}
 use Rattle.name_core.specs.Choice.{choice}
-use Rattle.recovery_core.specs.declared.primary.OwnStep.{OwnStep}
-use Rattle.recovery_core.specs.declared.primary.OwnStep.TheVariants as own
-use Rattle.recovery_core.specs.declared.primary.Phase.{Phase}
-use Rattle.recovery_core.specs.declared.primary.Phase.TheVariants as phase
-use Rattle.recovery_core.specs.declared.standings.Heard.{Heard}
-use Rattle.recovery_core.specs.declared.standings.Standing.{Standing}
-use Rattle.recovery_core.specs.Primaries.{PrimaryState, OwnTaken, taken, waits, infos, updated_members, choosing, committing, own_at, own_step, heard_as, heard_at}
+use Rattle.world.specs.RecoveryCore.OwnStep.{OwnStep}
+use Rattle.world.specs.RecoveryCore.OwnStep.TheVariants as own
+use Rattle.world.specs.RecoveryCore.Phase.{Phase}
+use Rattle.world.specs.RecoveryCore.Phase.TheVariants as phase
+use Rattle.world.specs.RecoveryCore.Heard.{Heard}
+use Rattle.world.specs.RecoveryCore.Standing.{Standing}
+use Rattle.world.specs.RecoveryCore.Primaries.{PrimaryState, OwnTaken, taken, waits, infos, updated_members, choosing, committing, own_at, own_step, heard_as, heard_at}
 use Rattle.world_settling.specs.Leading.{leading_weight}
 
 abbrev pub state_weight : PrimaryState → ℕ

@@ -40,3 +40,5 @@ pub mod Actors
 pub mod Drawing
 pub mod Telling
 pub mod Runs
+pub mod WorldNets
+pub mod WorldTexts

@@ -3,11 +3,11 @@ use Rattle.hd_base.specs.declared.numbers.BlockId.{BlockId}
 use Rattle.hd_base.specs.declared.numbers.NodeId.{NodeId}
 use Rattle.op_headers.specs.declared.ops.Op.{Op}
 use Rattle.op_headers.specs.declared.ops.ReadOp.{ReadOp}
-use Rattle.read_core.specs.Readings.{ReadTaken, take_from}
-use Rattle.read_core.specs.declared.reading.ReadTurn.{ReadTurn}
-use Rattle.recovery_core.specs.Primaries.{PrimaryState, after_heard, begun_with, is_among, is_awaited, office_refused, shuts_after, sync_call}
-use Rattle.recovery_core.specs.declared.primary.OwnStep.{OwnStep}
-use Rattle.recovery_core.specs.declared.standings.Standing.{Standing}
+use Rattle.world.specs.ReadCore.Readings.{ReadTaken, take_from}
+use Rattle.world.specs.ReadCore.ReadTurn.{ReadTurn}
+use Rattle.world.specs.RecoveryCore.Primaries.{PrimaryState, after_heard, begun_with, is_among, is_awaited, office_refused, shuts_after, sync_call}
+use Rattle.world.specs.RecoveryCore.OwnStep.{OwnStep}
+use Rattle.world.specs.RecoveryCore.Standing.{Standing}
 use Rattle.std.proofs.Common.{Bool, Err, IfSome, List, None, Ok, Option, Some, [], false, refl, slice_get, true, ℕ, ◌≡◌}
 use Rattle.std.specs.Prelude.{is_none, not, slice_get, ◌&&◌, ◌==◌}
 use Rattle.world.specs.Clients.{are_members, command_bytes, dialled_change, dialling, did, from_node_of, is_empty, is_formed, own_reader, own_reader_as, own_writer, reader_dials, reader_turn, reader_up, reader_up_as, rest_in, ruled, takes_command, takes_step, writer_change, writer_hears, writer_step, writer_up}
@@ -23,9 +23,9 @@ use Rattle.writer_core.specs.declared.phases.Phase.{Phase}
 use Rattle.writer_core.specs.declared.phases.Waiting.{Waiting}
 use Rattle.writer_core.specs.declared.records.WriterRecord.{WriterRecord}
 use Rattle.name_core.specs.declared.calls.OfficeAnswer.TheVariants as office
-use Rattle.read_core.specs.declared.reading.ReadTurn.TheVariants as turn
-use Rattle.recovery_core.specs.Primaries as primary
-use Rattle.recovery_core.specs.declared.primary.OwnStep.TheVariants as own
+use Rattle.world.specs.ReadCore.ReadTurn.TheVariants as turn
+use Rattle.world.specs.RecoveryCore.Primaries as primary
+use Rattle.world.specs.RecoveryCore.OwnStep.TheVariants as own
 use Rattle.world.specs.declared.events.Caller.TheVariants as caller
 use Rattle.writer_core.specs.Transitions as writer
 use Rattle.writer_core.specs.declared.actions.Action.TheVariants as action

@@ -3,7 +3,7 @@ use Rattle.std.proofs.Common.{◌≡◌, ℕ, zero, suc, ◌≤◌, ◌+◌, ◌
 use Rattle.std.specs.Prelude.{sum_by, nat_le, if◌then◌else◌}
 use Rattle.std.proofs.lemmas.List.Sums.{sum_by-cons}
 use Rattle.std.proofs.lemmas.Option.{none-some}
-use Rattle.world_laws.specs.Placing.{IsUndialled}
+use Rattle.world_texts.specs.WorldLaws.Placing.{IsUndialled}
 use Rattle.world.specs.Parts.{Lower, idle}
 use Rattle.world.specs.Worlds.{World, Change, Dial, apply, dial_at, listed}
 use Rattle.world_settling.specs.Traffic.{sum_to, hops, down_weight, up_weight, down_way, up_way, sides, lower_weight, entries, entries_of, traffic}

@@ -13,12 +13,12 @@ use Rattle.op_headers.specs.declared.ops.RecoveryKind.TheVariants as kind
 use Rattle.op_headers.specs.declared.ops.RecoveryOp.{RecoveryOp}
 use Rattle.request_refusals.specs.declared.refusals.RequestRefusal.TheVariants as request_refusal
 use Rattle.request_refusals.specs.Pools.{is_in_pool}
-use Rattle.recovery_core.specs.declared.members.RecoveryReply.{RecoveryReply}
-use Rattle.recovery_core.specs.declared.members.RecoveryReply.TheVariants as reply
-use Rattle.recovery_core.specs.Members.{Served, no_recovery, step_event, recovery_event, answer_of, served_as, serve, serve_faulted}
-use Rattle.read_core.specs.declared.serving.ServePhase.{ServePhase}
-use Rattle.read_core.specs.declared.serving.ServePhase.TheVariants as phase
-use Rattle.read_core.specs.Servings.{ServingState, most_bytes, piece_len, packet_of, piece_of, piece_event, next_call, call_at, phase_behind, gone_on, sent, sent_in, piece_as, faulted_piece}
+use Rattle.world.specs.RecoveryCore.RecoveryReply.{RecoveryReply}
+use Rattle.world.specs.RecoveryCore.RecoveryReply.TheVariants as reply
+use Rattle.world.specs.RecoveryCore.Members.{Served, no_recovery, step_event, recovery_event, answer_of, served_as, serve, serve_faulted}
+use Rattle.world.specs.ReadCore.ServePhase.{ServePhase}
+use Rattle.world.specs.ReadCore.ServePhase.TheVariants as phase
+use Rattle.world.specs.ReadCore.Servings.{ServingState, most_bytes, piece_len, packet_of, piece_of, piece_event, next_call, call_at, phase_behind, gone_on, sent, sent_in, piece_as, faulted_piece}
 use Rattle.world.specs.Parts.{Message, packet, recovery_answer, Break, Lower, serves}
 use Rattle.world.specs.Worlds.{World, Change, apply}
 use Rattle.world.specs.Connections.{sent_on}

@@ -29,9 +29,9 @@ use Rattle.world.specs.declared.events.OwnStep.TheVariants as own
 use Rattle.world.specs.Parts as world_told
 use Rattle.world.specs.Parts.{Writing}
 use Rattle.world.specs.Clients.{own_writer, writer_step}
-use Rattle.world_laws.proofs.PlacedLaws.{all-placed}
-use Rattle.world_laws.proofs.AllCarried.{all-carried}
-use Rattle.world_laws.proofs.RunLaws.{runs-end}
+use Rattle.world_texts.proofs.WorldLaws.PlacedLaws.{all-placed}
+use Rattle.world_texts.proofs.WorldLaws.AllCarried.{all-carried}
+use Rattle.world_texts.proofs.WorldLaws.RunLaws.{runs-end}
 use Rattle.world_texts.specs.Texts.{AllFit}
 use Rattle.world_texts.proofs.AllWritten.{all-formed}
 use Rattle.world_settling.specs.Measure.{writer_weight, LowersBoth, AskingLowers}

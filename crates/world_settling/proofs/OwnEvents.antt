@@ -12,9 +12,9 @@ use Rattle.world.specs.Parts.{Told, Message, request, packet, ack, response, rea
 use Rattle.world.specs.Worlds.{World, apply, start}
 use Rattle.world.specs.Clients.{own_writer}
 use Rattle.world.specs.Events.{changed, own_change, outcome, happens, run}
-use Rattle.world_laws.proofs.PlacedLaws.{all-placed}
-use Rattle.world_laws.proofs.AllCarried.{all-carried}
-use Rattle.world_laws.specs.Stamping.{heard}
+use Rattle.world_texts.proofs.WorldLaws.PlacedLaws.{all-placed}
+use Rattle.world_texts.proofs.WorldLaws.AllCarried.{all-carried}
+use Rattle.world_texts.specs.WorldLaws.Stamping.{heard}
 use Rattle.world_texts.proofs.Spelling.{MessageFits}
 use Rattle.world_texts.proofs.AllWritten.{all-formed}
 use Rattle.world_texts.proofs.Frame.{Formed}

@@ -9,11 +9,11 @@ use Rattle.op_headers.specs.declared.ops.Op.{Op}
 use Rattle.op_headers.specs.declared.ops.ReadOp.{ReadOp}
 use Rattle.op_headers.specs.declared.ops.RecoveryOp.{RecoveryOp}
 use Rattle.packet_codec.specs.declared.packets.Packet.{Packet}
-use Rattle.read_core.specs.Readings.{ReadTaken, take_from}
-use Rattle.read_core.specs.Servings.{ServingState, faulted_piece, faulted_read, next_call, piece_at, read_at, read_event}
-use Rattle.read_core.specs.declared.reading.ReadTurn.{ReadTurn}
-use Rattle.recovery_core.specs.Members.{Served, recovery_event, serve, serve_faulted}
-use Rattle.recovery_core.specs.declared.members.RecoveryReply.{RecoveryReply}
+use Rattle.world.specs.ReadCore.Readings.{ReadTaken, take_from}
+use Rattle.world.specs.ReadCore.Servings.{ServingState, faulted_piece, faulted_read, next_call, piece_at, read_at, read_event}
+use Rattle.world.specs.ReadCore.ReadTurn.{ReadTurn}
+use Rattle.world.specs.RecoveryCore.Members.{Served, recovery_event, serve, serve_faulted}
+use Rattle.world.specs.RecoveryCore.RecoveryReply.{RecoveryReply}
 use Rattle.replica_core.specs.Views.{rule_in}
 use Rattle.replica_core.specs.declared.events.Event.{Event}
 use Rattle.replica_model.specs.Rows.{FullReplica}
@@ -35,7 +35,7 @@ use Rattle.writer_core.specs.declared.phases.Phase.{Phase}
 use Rattle.writer_core.specs.declared.phases.Waiting.{Waiting}
 use Rattle.writer_core.specs.declared.records.WriterRecord.{WriterRecord}
 use Rattle.op_headers.specs.declared.ops.Op.TheVariants as op
-use Rattle.read_core.specs.declared.reading.ReadTurn.TheVariants as turn
+use Rattle.world.specs.ReadCore.ReadTurn.TheVariants as turn
 use Rattle.replica_model.specs.declared.events.ReplicaEvent.TheVariants as replica_event
 use Rattle.writer_core.specs.Transitions as writer
 use Rattle.writer_core.specs.declared.actions.Action.TheVariants as action

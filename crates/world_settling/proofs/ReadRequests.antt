@@ -13,7 +13,7 @@ use Rattle.replica_model.specs.declared.events.ReplicaEvent.TheVariants as repli
 use Rattle.replica_model.specs.Rows.{FullReplica, row_answer, broken}
 use Rattle.request_refusals.specs.declared.refusals.RequestRefusal.{RequestRefusal}
 use Rattle.request_refusals.specs.declared.refusals.RequestRefusal.TheVariants as refusal
-use Rattle.read_core.specs.Servings.{chunk_start, chunk_end, read_end, begun, begun_as, begun_at, read_event, accepting, refusing}
+use Rattle.world.specs.ReadCore.Servings.{chunk_start, chunk_end, read_end, begun, begun_as, begun_at, read_event, accepting, refusing}
 use Rattle.world.specs.Parts.{response}
 use Rattle.world.specs.Worlds.{World}
 use Rattle.world.specs.Nodes.{replica_at, breaking, read_change, failing_read, read_request}

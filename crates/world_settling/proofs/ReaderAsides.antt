@@ -2,9 +2,9 @@
 use Rattle.hd_base.specs.declared.numbers.BlockId.{BlockId}
 use Rattle.hd_base.specs.declared.numbers.NodeId.{NodeId}
 use Rattle.op_headers.specs.declared.ops.Op.{Op}
-use Rattle.recovery_core.specs.Primaries.{PrimaryState}
-use Rattle.recovery_core.specs.declared.primary.OwnStep.{OwnStep}
-use Rattle.recovery_core.specs.declared.standings.Standing.{Standing}
+use Rattle.world.specs.RecoveryCore.Primaries.{PrimaryState}
+use Rattle.world.specs.RecoveryCore.OwnStep.{OwnStep}
+use Rattle.world.specs.RecoveryCore.Standing.{Standing}
 use Rattle.std.proofs.Common.{Bool, Err, IfSome, List, None, Ok, Option, Some, [], false, refl, slice_get, true, ℕ}
 use Rattle.std.specs.Prelude.{is_none, not, ◌&&◌, ◌==◌}
 use Rattle.world.specs.Clients.{are_members, command_bytes, dialled_change, dialling, did, is_empty, is_formed, own_writer, rest_in, ruled, takes_command, takes_step, writer_change, writer_hears, writer_step, writer_up}
@@ -20,13 +20,13 @@ use Rattle.writer_core.specs.declared.phases.Phase.{Phase}
 use Rattle.writer_core.specs.declared.phases.Waiting.{Waiting}
 use Rattle.writer_core.specs.declared.records.WriterRecord.{WriterRecord}
 use Rattle.name_core.specs.declared.calls.OfficeAnswer.TheVariants as office
-use Rattle.recovery_core.specs.Primaries as primary
-use Rattle.recovery_core.specs.declared.primary.OwnStep.TheVariants as own
+use Rattle.world.specs.RecoveryCore.Primaries as primary
+use Rattle.world.specs.RecoveryCore.OwnStep.TheVariants as own
 use Rattle.world.specs.declared.events.Caller.TheVariants as caller
 use Rattle.writer_core.specs.Transitions as writer
 use Rattle.writer_core.specs.declared.actions.Action.TheVariants as action
 use Rattle.writer_core.specs.declared.phases.Phase.TheVariants as phase
-use Rattle.world_laws.proofs.FactTables.{when-each}
+use Rattle.world_texts.proofs.WorldLaws.FactTables.{when-each}
 use Rattle.world_settling.proofs.ReaderNodeAsides.{Stays}
 
 -- WRITERS

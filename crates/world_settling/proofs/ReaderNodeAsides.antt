@@ -14,9 +14,9 @@ use Rattle.member_core.specs.declared.turns.Turn.{Turn}
 use Rattle.member_core.specs.Members.{down_turn, up_turn, hears}
 use Rattle.member_core.specs.Steps.{step, faulted_step, oldest_at, ready_turn_at}
 use Rattle.replica_model.specs.Rows.{FullReplica}
-use Rattle.read_core.specs.Servings.{faulted_read, faulted_piece, ServingState, read_at, read_event, next_call, piece_at}
-use Rattle.recovery_core.specs.declared.members.RecoveryReply.{RecoveryReply}
-use Rattle.recovery_core.specs.Members.{Served, recovery_event, serve, serve_faulted}
+use Rattle.world.specs.ReadCore.Servings.{faulted_read, faulted_piece, ServingState, read_at, read_event, next_call, piece_at}
+use Rattle.world.specs.RecoveryCore.RecoveryReply.{RecoveryReply}
+use Rattle.world.specs.RecoveryCore.Members.{Served, recovery_event, serve, serve_faulted}
 use Rattle.world.specs.Parts.{Message, request, packet, ack, response, read_status, recovery_answer, FullMember, Lower, idle, writes, serves, recovers, ended_below, Break}
 use Rattle.world.specs.Worlds.{World, Change, still}
 use Rattle.world.specs.Connections.{Next, message, the_end, sent_on, is_alive}
@@ -26,7 +26,7 @@ use Rattle.member_core.specs.Requests.{request_event}
 use Rattle.member_core.specs.Steps.{Step, Setup, request_step, faulted_request}
 use Rattle.replica_core.specs.Views.{rule_in}
 use Rattle.world.specs.Nodes.{setup_change, failing_write, write_request, is_asked}
-use Rattle.world_laws.proofs.FactTables.{when-each}
+use Rattle.world_texts.proofs.WorldLaws.FactTables.{when-each}
 
 -- no reader comes into another state
 pub record Stays (w : World) (k : Change) : Type 0 where

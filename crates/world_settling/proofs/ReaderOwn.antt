@@ -5,8 +5,8 @@ use Rattle.std.proofs.lemmas.Bool.{false≢true}
 use Rattle.std.proofs.lemmas.Option.{none-some, same_Some}
 use Rattle.op_headers.specs.declared.ops.ReadOp.{ReadOp}
 use Rattle.op_headers.specs.declared.ops.Op.TheVariants as op
-use Rattle.world_laws.specs.Placing.{IsUndialled}
-use Rattle.world_laws.proofs.PlacedLaws.{all-placed}
+use Rattle.world_texts.specs.WorldLaws.Placing.{IsUndialled}
+use Rattle.world_texts.proofs.WorldLaws.PlacedLaws.{all-placed}
 use Rattle.world.specs.declared.events.Event.{Event}
 use Rattle.world.specs.declared.events.Event.TheVariants as event
 use Rattle.world.specs.declared.events.OwnStep.TheVariants as own

@@ -2,9 +2,9 @@
 use Rattle.std.proofs.Common.{◌≡◌, ℕ, Bool, true, false, Option, Some, None, IfSome, sym, ◌∙◌}
 use Rattle.std.specs.Prelude.{◌==◌, ◌&&◌, nat_lt, not}
 use Rattle.op_headers.specs.declared.ops.ReadOp.{ReadOp}
-use Rattle.read_core.specs.declared.reading.ReadTurn.{ReadTurn}
-use Rattle.read_core.specs.declared.reading.ReadTurn.TheVariants as turn
-use Rattle.read_core.specs.Readings.{ReadTaken, take_from}
+use Rattle.world.specs.ReadCore.ReadTurn.{ReadTurn}
+use Rattle.world.specs.ReadCore.ReadTurn.TheVariants as turn
+use Rattle.world.specs.ReadCore.Readings.{ReadTaken, take_from}
 use Rattle.world.specs.declared.events.Delivery.{Delivery}
 use Rattle.world.specs.declared.events.Delivery.TheVariants as delivery
 use Rattle.world.specs.declared.events.Direction.{Direction}
@@ -21,7 +21,7 @@ use Rattle.world.specs.Clients.{own_writer, writer_up, reader_dials, own_reader_
 use Rattle.world.specs.Primaries.{own_recover, own_primary, primary_up, office_event}
 use Rattle.world.specs.Restarts.{restart}
 use Rattle.world.specs.Events.{changed, own_change, down_as, down_event, ready_event, unless_fails, upper_up, up_as, up_event, fault_event, lost, stop, where_so, outcome, after_event, happens}
-use Rattle.world_laws.proofs.FactTables.{put-each, when-each}
+use Rattle.world_texts.proofs.WorldLaws.FactTables.{put-each, when-each}
 use Rattle.world_settling.specs.Draws.{ReadersGoOn}
 use Rattle.world_settling.proofs.ReaderNodeAsides.{Stays, lower-down-stays, lower-ready-stays, mirror-up-stays}
 use Rattle.world_settling.proofs.ReaderAsides.{own-writer-stays, writer-up-stays, own-recover-stays, own-primary-stays, primary-up-stays, office-stays}

@@ -8,7 +8,7 @@ use Rattle.hd_base.specs.declared.numbers.ConnId.{ConnId}
 use Rattle.op_headers.specs.declared.nodes.NodeRef.{NodeRef}
 use Rattle.op_headers.specs.declared.ops.Op.TheVariants as op
 use Rattle.op_headers.specs.Values.{WriteFields}
-use Rattle.node_refs.specs.NodeRefs.{ref_of}
+use Rattle.world.specs.NodeRefs.NodeRefs.{ref_of}
 use Rattle.replica_core.specs.declared.events.Event.{Event}
 use Rattle.replica_core.specs.declared.events.Event.TheVariants as event
 use Rattle.replica_core.specs.Views.{rule_in}

@@ -13,7 +13,7 @@ use Rattle.world.specs.Parts.{Writing}
 use Rattle.world.specs.Worlds.{World, start}
 use Rattle.world.specs.Events.{happens, run}
 use Rattle.world_texts.specs.Texts.{AllFit}
-use Rattle.world_laws.proofs.RunLaws.{runs-join}
+use Rattle.world_texts.proofs.WorldLaws.RunLaws.{runs-join}
 use Rattle.world_settling.specs.Traffic.{sum_to, traffic, is_outer}
 use Rattle.world_settling.specs.Draws.{writer_at, primary_at, world_weight, actor_of, is_writer, is_primary, Draw, happening, asking, beginning, committing, IsUntold, Turn, drawing, failing, turn_events, turn_brings, drawn_in, is_failure, CanGo, AllGo, with_turns, NoneTold, DrawsEnd, RunsEnd}
 use Rattle.world_settling.proofs.Outer.{outer-keep}

@@ -27,7 +27,7 @@ use Rattle.world.specs.Connections.{Next, next_up, up_taken, is_conn}
 use Rattle.world.specs.Clients.{command_bytes, dialled_change, dialling, did, is_empty, is_formed, own_writer, rest_in, ruled, takes_command, takes_step, writer_change, writer_hears, writer_step, writer_up}
 use Rattle.world.specs.Primaries.{writer_asks, writer_asks_office}
 use Rattle.world.specs.Events.{changed, upper_up, up_as, up_event, after_event, outcome, is_enabled, happens}
-use Rattle.world_laws.proofs.FactTables.{and-left, and-right}
+use Rattle.world_texts.proofs.WorldLaws.FactTables.{and-left, and-right}
 use Rattle.world_settling.specs.Draws.{actor_above, actor_of, is_writer, happening, asking, beginning, committing, NoneTold, DrawsAnswer}
 use Rattle.world_settling.proofs.Outer.{when-each}
 use Rattle.world_settling.proofs.WriterOwn.{writers-else}

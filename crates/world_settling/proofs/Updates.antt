@@ -4,7 +4,7 @@ use Rattle.std.specs.Prelude.{sum_by, zip, ◌&&◌, if◌then◌else◌}
 use Rattle.std.proofs.lemmas.Bool.{ne_eqb}
 use Rattle.std.proofs.lemmas.List.Sums.{sum_by-cons}
 use Rattle.hd_base.specs.declared.numbers.NodeId.{NodeId}
-use Rattle.recovery_core.specs.Primaries.{is_among}
+use Rattle.world.specs.RecoveryCore.Primaries.{is_among}
 use Rattle.world.specs.Parts.{Message}
 use Rattle.world.specs.Worlds.{World, Change, apply}
 use Rattle.world.specs.Connections.{is_conn}

@@ -5,7 +5,7 @@ use Rattle.std.proofs.lemmas.Bool.Decides.{nat_tests}
 use Rattle.std.proofs.lemmas.Bool.{false≢true}
 use Rattle.hd_base.specs.declared.numbers.ConnId.{ConnId}
 use Rattle.hd_base.specs.declared.numbers.NodeId.{NodeId}
-use Rattle.ack_codec.specs.declared.acks.Ack.{Ack}
+use Rattle.member_core.specs.AckCodec.Ack.{Ack}
 use Rattle.packet_codec.specs.declared.packets.Packet.{Packet}
 use Rattle.packet_stream.specs.Streams.{StreamState, acked_packet, oldest_acked, oldest_is_last, oldest_seqno, is_last}
 use Rattle.writer_core.specs.declared.phases.Phase.{Phase}

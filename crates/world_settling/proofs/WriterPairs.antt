@@ -8,7 +8,7 @@ use Rattle.hd_base.specs.declared.numbers.NodeId.{NodeId}
 use Rattle.hd_base.specs.declared.numbers.Stamp.{Stamp}
 use Rattle.op_headers.specs.declared.ops.Op.{Op}
 use Rattle.op_headers.specs.declared.ops.Op.TheVariants as op
-use Rattle.node_refs.specs.NodeRefs.{ref_of}
+use Rattle.world.specs.NodeRefs.NodeRefs.{ref_of}
 use Rattle.name_core.specs.declared.calls.OfficeAnswer.{OfficeAnswer}
 use Rattle.name_core.specs.declared.calls.OfficeAnswer.TheVariants as office
 use Rattle.name_core.specs.declared.calls.Reopened.{Reopened}

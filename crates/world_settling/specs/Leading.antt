@@ -6,8 +6,8 @@ use Rattle.hd_base.specs.declared.numbers.ConnId.{ConnId}
 use Rattle.hd_base.specs.declared.numbers.NodeId.{NodeId}
 use Rattle.op_headers.specs.declared.ops.Op.TheVariants as op
 use Rattle.op_headers.specs.declared.ops.ReadOp.{ReadOp}
-use Rattle.recovery_core.specs.declared.primary.Phase.{Phase}
-use Rattle.recovery_core.specs.declared.primary.Phase.TheVariants as phase
+use Rattle.world.specs.RecoveryCore.Phase.{Phase}
+use Rattle.world.specs.RecoveryCore.Phase.TheVariants as phase
 use Rattle.world.specs.declared.events.Caller.TheVariants as caller
 use Rattle.world.specs.declared.events.Event.{Event}
 use Rattle.world.specs.declared.events.Event.TheVariants as event

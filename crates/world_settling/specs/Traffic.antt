@@ -7,9 +7,9 @@ use Rattle.op_headers.specs.declared.ops.Op.TheVariants as op
 use Rattle.replica_core.specs.declared.records.ReplicaRecord.{ReplicaRecord}
 use Rattle.replica_core.specs.Transitions.{is_written_by}
 use Rattle.member_core.specs.Members.{MemberState, is_waiting}
-use Rattle.read_core.specs.declared.serving.ServePhase.{ServePhase}
-use Rattle.read_core.specs.declared.serving.ServePhase.TheVariants as phase
-use Rattle.read_core.specs.Servings.{ServingState}
+use Rattle.world.specs.ReadCore.ServePhase.{ServePhase}
+use Rattle.world.specs.ReadCore.ServePhase.TheVariants as phase
+use Rattle.world.specs.ReadCore.Servings.{ServingState}
 use Rattle.world.specs.declared.events.Event.{Event}
 use Rattle.world.specs.declared.events.Event.TheVariants as event
 use Rattle.world.specs.Parts.{Message, request, packet, Marks, Lower, writes, serves}

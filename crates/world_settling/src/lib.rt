@@ -129,3 +129,6 @@ pub fn draws_end()
 pub fn runs_end()
     ensures { RunsEnd }
 {}
+
+pub use member_core::MAX_PORT;
+pub use world_texts::messages_are_written;

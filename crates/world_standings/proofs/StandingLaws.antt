@@ -7,8 +7,8 @@ use Rattle.std.proofs.lemmas.List.{length-map}
 use Rattle.hd_base.specs.Channels.{next_standing}
 use Rattle.road_traffic.specs.Showing.{standing_on}
 use Rattle.road_traffic.specs.Traffic.{Traffic, Fits, before_end}
-use Rattle.world.specs.Parts.{Message}
-use Rattle.world.specs.Connections.{Next, message, the_end, ends_at, next_on}
+use Rattle.world_nets.specs.World.Parts.{Message}
+use Rattle.world_nets.specs.World.Connections.{Next, message, the_end, ends_at, next_on}
 use Rattle.world_nets.specs.Nets.{IsRow}
 use Rattle.world_nets.specs.Rows.{Row, text_of}
 use Rattle.world_standings.specs.Standings.{standing_for, stands, StandingsAgree}

@@ -4,7 +4,7 @@ use Rattle.hd_base.specs.declared.ends.Standing.{Standing}
 use Rattle.hd_base.specs.declared.ends.Standing.TheVariants as standing
 use Rattle.road_traffic.specs.Showing.{standing_on}
 use Rattle.road_traffic.specs.Traffic.{Traffic, Fits}
-use Rattle.world.specs.Connections.{Next, message, the_end, next_on}
+use Rattle.world_nets.specs.World.Connections.{Next, message, the_end, next_on}
 use Rattle.world_nets.specs.Nets.{IsRow}
 use Rattle.world_nets.specs.Rows.{Row}
 

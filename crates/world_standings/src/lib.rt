@@ -20,3 +20,5 @@ pub fn stands(next: Standing) -> bool
 pub fn standings_agree()
     ensures { StandingsAgree }
 {}
+
+pub use world_nets::{ends_elsewhere_stay, idle_flushes_are_nets, nets_carry, nets_stay_sane};

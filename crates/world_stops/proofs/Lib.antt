@@ -1,2 +1,4 @@
 pub mod OriginLemmas
 pub mod StopLemmas
+pub mod WorldCuts
+pub mod WorldLaws

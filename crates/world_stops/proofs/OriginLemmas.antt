@@ -10,52 +10,52 @@ use Rattle.op_headers.specs.declared.ops.Op.TheVariants as op
 use Rattle.op_headers.specs.declared.ops.Op.{Op}
 use Rattle.op_headers.specs.declared.ops.ReadOp.{ReadOp}
 use Rattle.op_headers.specs.Values.{WriteFields}
-use Rattle.member_core.specs.declared.member.Mirror.{Mirror}
-use Rattle.member_core.specs.declared.member.Mirror.TheVariants as mirror
-use Rattle.member_core.specs.declared.turns.Turn.{Turn}
-use Rattle.member_core.specs.Members.{MemberState}
+use Rattle.world_laws.specs.MemberCore.Mirror.{Mirror}
+use Rattle.world_laws.specs.MemberCore.Mirror.TheVariants as mirror
+use Rattle.world_laws.specs.MemberCore.Turn.{Turn}
+use Rattle.world_laws.specs.MemberCore.Members.{MemberState}
 use Rattle.packet_codec.specs.declared.packets.Packet.{Packet}
-use Rattle.read_core.specs.declared.reading.ReadTurn.{ReadTurn}
-use Rattle.read_core.specs.declared.reading.ReadTurn.TheVariants as turn
-use Rattle.read_core.specs.Readings.{ReadTaken, take_from}
-use Rattle.read_core.specs.Servings.{ServingState}
-use Rattle.recovery_core.specs.declared.members.RecoveryReply.{RecoveryReply}
-use Rattle.recovery_core.specs.declared.primary.OwnStep.{OwnStep as LeadStep}
-use Rattle.recovery_core.specs.declared.primary.OwnStep.TheVariants as lead
-use Rattle.recovery_core.specs.declared.standings.Standing.{Standing}
+use Rattle.world_laws.specs.ReadCore.ReadTurn.{ReadTurn}
+use Rattle.world_laws.specs.ReadCore.ReadTurn.TheVariants as turn
+use Rattle.world_laws.specs.ReadCore.Readings.{ReadTaken, take_from}
+use Rattle.world_laws.specs.ReadCore.Servings.{ServingState}
+use Rattle.world_laws.specs.RecoveryCore.RecoveryReply.{RecoveryReply}
+use Rattle.world_laws.specs.RecoveryCore.OwnStep.{OwnStep as LeadStep}
+use Rattle.world_laws.specs.RecoveryCore.OwnStep.TheVariants as lead
+use Rattle.world_laws.specs.RecoveryCore.Standing.{Standing}
 use Rattle.replica_core.specs.declared.events.Event.{Event as ReplicaStep}
-use Rattle.replica_model.specs.declared.events.ReplicaEvent.{ReplicaEvent}
-use Rattle.request_refusals.specs.declared.refusals.RequestRefusal.{RequestRefusal}
-use Rattle.writer_core.specs.declared.actions.Action.{Action}
-use Rattle.writer_core.specs.declared.actions.Action.TheVariants as action
-use Rattle.writer_core.specs.declared.phases.Phase.{Phase}
-use Rattle.writer_core.specs.declared.phases.Phase.TheVariants as phase
-use Rattle.writer_core.specs.declared.phases.Waiting.{Waiting}
-use Rattle.writer_core.specs.declared.records.WriterRecord.{WriterRecord}
-use Rattle.writer_core.specs.Transitions as writer
-use Rattle.recovery_core.specs.Primaries as recovery
-use Rattle.recovery_core.specs.Primaries.{PrimaryState}
+use Rattle.world_laws.specs.ReplicaModel.ReplicaEvent.{ReplicaEvent}
+use Rattle.world_laws.specs.RequestRefusals.RequestRefusal.{RequestRefusal}
+use Rattle.world_laws.specs.WriterCore.Action.{Action}
+use Rattle.world_laws.specs.WriterCore.Action.TheVariants as action
+use Rattle.world_laws.specs.WriterCore.Phase.{Phase}
+use Rattle.world_laws.specs.WriterCore.Phase.TheVariants as phase
+use Rattle.world_laws.specs.WriterCore.Waiting.{Waiting}
+use Rattle.world_laws.specs.WriterCore.WriterRecord.{WriterRecord}
+use Rattle.world_laws.specs.WriterCore.Transitions as writer
+use Rattle.world_laws.specs.RecoveryCore.Primaries as recovery
+use Rattle.world_laws.specs.RecoveryCore.Primaries.{PrimaryState}
 use Rattle.op_headers.specs.declared.ops.RecoveryOp.{RecoveryOp}
-use Rattle.world.specs.declared.events.Caller.{Caller}
-use Rattle.world.specs.declared.events.Caller.TheVariants as caller
-use Rattle.world.specs.declared.events.Delivery.{Delivery}
-use Rattle.world.specs.declared.events.Delivery.TheVariants as delivery
-use Rattle.world.specs.declared.events.Direction.{Direction}
-use Rattle.world.specs.declared.events.Direction.TheVariants as direction
-use Rattle.world.specs.declared.events.Event.{Event}
-use Rattle.world.specs.declared.events.Event.TheVariants as event
-use Rattle.world.specs.declared.events.FoundReplica.{FoundReplica}
-use Rattle.world.specs.declared.events.OwnStep.{OwnStep}
-use Rattle.world.specs.declared.events.OwnStep.TheVariants as own
-use Rattle.world.specs.declared.events.TakenCommand.{TakenCommand}
-use Rattle.world.specs.Parts.{Message, request, packet, ack, response, read_status, recovery_answer, Upper, by_writer, by_member, by_reader, by_primary, Place, Dialled, FullMember, Lower, idle, writes, serves, recovers, ended_below, Told, Leading, Reader, no_reader, reads, has_read, Primary, no_primary, was_told, leads, has_led}
-use Rattle.world.specs.Worlds.{World, Change, Dial, start, apply, dial_at}
-use Rattle.world.specs.Connections.{Next, message, the_end, next_down, next_up, down_taken, up_taken, is_alive, is_served, place_of}
-use Rattle.world.specs.Nodes.{unless_failing, closing, mirror_dial, dials_of, member_dials, setup_change, failing_write, write_request, failing_turn, turn_change, member_down, member_up, ready_change, member_ready, failing_read, read_change, read_request, piece_as, serve_change, failing_recovery, recovery_request, first_message, next_recovery, lower_down, lower_ready, mirror_up, takes_next, pending_at}
-use Rattle.world.specs.Clients.{writer_change, did, dialled_change, dialling, rest_in, is_empty, is_formed, ruled, command_bytes, takes_step, takes_given, takes_command, writer_step, own_writer, writer_up, reader_dials, own_reader_as, own_reader, reader_turn, reader_up_as, reader_up}
-use Rattle.world.specs.Primaries.{primary_dials, begins_as, begins_at, leads_step, commits_step, leads_told, own_primary_as, hears_change, primary_up_as, listens, writer_asks, primary_commits, primary_asks, office_event}
-use Rattle.world.specs.Events.{changed, own_change, down_as, down_event, ready_event, unless_fails, upper_up, up_as, up_event, fault_event, lost, where_so, outcome, after_event, happens, run}
-use Rattle.world.specs.Restarts.{restart}
+use Rattle.world_laws.specs.World.Caller.{Caller}
+use Rattle.world_laws.specs.World.Caller.TheVariants as caller
+use Rattle.world_laws.specs.World.Delivery.{Delivery}
+use Rattle.world_laws.specs.World.Delivery.TheVariants as delivery
+use Rattle.world_laws.specs.World.Direction.{Direction}
+use Rattle.world_laws.specs.World.Direction.TheVariants as direction
+use Rattle.world_laws.specs.World.Event.{Event}
+use Rattle.world_laws.specs.World.Event.TheVariants as event
+use Rattle.world_laws.specs.World.FoundReplica.{FoundReplica}
+use Rattle.world_laws.specs.World.OwnStep.{OwnStep}
+use Rattle.world_laws.specs.World.OwnStep.TheVariants as own
+use Rattle.world_laws.specs.World.TakenCommand.{TakenCommand}
+use Rattle.world_laws.specs.World.Parts.{Message, request, packet, ack, response, read_status, recovery_answer, Upper, by_writer, by_member, by_reader, by_primary, Place, Dialled, FullMember, Lower, idle, writes, serves, recovers, ended_below, Told, Leading, Reader, no_reader, reads, has_read, Primary, no_primary, was_told, leads, has_led}
+use Rattle.world_laws.specs.World.Worlds.{World, Change, Dial, start, apply, dial_at}
+use Rattle.world_laws.specs.World.Connections.{Next, message, the_end, next_down, next_up, down_taken, up_taken, is_alive, is_served, place_of}
+use Rattle.world_laws.specs.World.Nodes.{unless_failing, closing, mirror_dial, dials_of, member_dials, setup_change, failing_write, write_request, failing_turn, turn_change, member_down, member_up, ready_change, member_ready, failing_read, read_change, read_request, piece_as, serve_change, failing_recovery, recovery_request, first_message, next_recovery, lower_down, lower_ready, mirror_up, takes_next, pending_at}
+use Rattle.world_laws.specs.World.Clients.{writer_change, did, dialled_change, dialling, rest_in, is_empty, is_formed, ruled, command_bytes, takes_step, takes_given, takes_command, writer_step, own_writer, writer_up, reader_dials, own_reader_as, own_reader, reader_turn, reader_up_as, reader_up}
+use Rattle.world_laws.specs.World.Primaries.{primary_dials, begins_as, begins_at, leads_step, commits_step, leads_told, own_primary_as, hears_change, primary_up_as, listens, writer_asks, primary_commits, primary_asks, office_event}
+use Rattle.world_laws.specs.World.Events.{changed, own_change, down_as, down_event, ready_event, unless_fails, upper_up, up_as, up_event, fault_event, lost, where_so, outcome, after_event, happens, run}
+use Rattle.world_laws.specs.World.Restarts.{restart}
 use Rattle.world_laws.specs.Growing.{Grows, PastGrows}
 use Rattle.world_laws.specs.Placing.{IsUpper, Placed, AllPlaced}
 use Rattle.world_laws.proofs.FactTables.{and-left, when-each}
@@ -200,7 +200,7 @@ lower_ready_from ended_below w c fails = tt
 
 mirror_up_from : (l : Lower) (w : World) (d : ℕ) (x : Next) (fails : Bool) → IfSome (mirror_up l w d x fails) (DialsFrom w)
 mirror_up_from (writes m) w d x fails =
-    when-each (DialsFrom w) (is_alive w (w.dialled d).to) _ (λ e. when-each (DialsFrom w) (Rattle.member_core.specs.Members.hears m.state) (turn_change w d m x (Rattle.member_core.specs.Members.up_turn m.state (slice_get (Rattle.world.specs.Nodes.replica_at w d (Rattle.world.specs.Nodes.block_of m.fields)).known.pending 0) (Rattle.world.specs.Nodes.below_of x)) fails) (λ f. turn_from w d m x (Rattle.member_core.specs.Members.up_turn m.state (slice_get (Rattle.world.specs.Nodes.replica_at w d (Rattle.world.specs.Nodes.block_of m.fields)).known.pending 0) (Rattle.world.specs.Nodes.below_of x)) fails))
+    when-each (DialsFrom w) (is_alive w (w.dialled d).to) _ (λ e. when-each (DialsFrom w) (Rattle.world_laws.specs.MemberCore.Members.hears m.state) (turn_change w d m x (Rattle.world_laws.specs.MemberCore.Members.up_turn m.state (slice_get (Rattle.world_laws.specs.World.Nodes.replica_at w d (Rattle.world_laws.specs.World.Nodes.block_of m.fields)).known.pending 0) (Rattle.world_laws.specs.World.Nodes.below_of x)) fails) (λ f. turn_from w d m x (Rattle.world_laws.specs.MemberCore.Members.up_turn m.state (slice_get (Rattle.world_laws.specs.World.Nodes.replica_at w d (Rattle.world_laws.specs.World.Nodes.block_of m.fields)).known.pending 0) (Rattle.world_laws.specs.World.Nodes.below_of x)) fails))
 mirror_up_from idle w d x fails = tt
 mirror_up_from (serves b s) w d x fails = tt
 mirror_up_from recovers w d x fails = tt
@@ -211,7 +211,7 @@ fails_from w true k f = tt
 fails_from w false k f = f
 
 writer_up_from : (w : World) (b c : ℕ) (x : Next) → IfSome (writer_up w b c x) (DialsFrom w)
-writer_up_from w b c x = when-each (DialsFrom w) (Rattle.world.specs.Connections.is_conn (w.writers b).conn c && is_none {T = Told} (w.writers b).told) (Some (writer_change w b (Rattle.world.specs.Clients.writer_hears (w.writers b).known x))) (λ e. none_from w)
+writer_up_from w b c x = when-each (DialsFrom w) (Rattle.world_laws.specs.World.Connections.is_conn (w.writers b).conn c && is_none {T = Told} (w.writers b).told) (Some (writer_change w b (Rattle.world_laws.specs.World.Clients.writer_hears (w.writers b).known x))) (λ e. none_from w)
 
 reader_turn_from : (w : World) (i c : ℕ) (t : ReadTaken) (u : ReadTurn) → DialsFrom w (reader_turn w i c t u)
 reader_turn_from w i c t turn.Goes = none_from w
@@ -220,7 +220,7 @@ reader_turn_from w i c t (turn.Fails f) = none_from w
 
 reader_up_from : (r : Reader) (w : World) (i c : ℕ) (x : Next) → IfSome (reader_up_as r w i c x) (DialsFrom w)
 reader_up_from no_reader w i c x = tt
-reader_up_from (reads d s) w i c x = when-each (DialsFrom w) (d == c) _ (λ e. reader_turn_from w i c (take_from s (Rattle.world.specs.Clients.from_node_of x)) _)
+reader_up_from (reads d s) w i c x = when-each (DialsFrom w) (d == c) _ (λ e. reader_turn_from w i c (take_from s (Rattle.world_laws.specs.World.Clients.from_node_of x)) _)
 reader_up_from (has_read r) w i c x = tt
 
 hears_from : (w : World) (i : ℕ) (l : Leading) (place c : ℕ) (x : Next) (s : Option Standing) → IfSome (hears_change w i l place c x s) (DialsFrom w)
@@ -308,7 +308,7 @@ begins_as_from (Err fault) w i at b members answers = none_from w
 
 begins_from : (p : Primary) (w : World) (i n : ℕ) (b : BlockId) (members : List NodeId) (answers : List Bool) → IfSome (begins_at p w i n b members answers) (DialsFrom w)
 begins_from no_primary w i n b members answers = tt
-begins_from (was_told asked t) w i n b members answers = when-each (DialsFrom w) (asked.0 == b.0 && w.running n && Rattle.world.specs.Clients.are_members members) (begins_as t w i (place_of w n) b members answers) (λ e. begins_as_from t w i (place_of w n) b members answers)
+begins_from (was_told asked t) w i n b members answers = when-each (DialsFrom w) (asked.0 == b.0 && w.running n && Rattle.world_laws.specs.World.Clients.are_members members) (begins_as t w i (place_of w n) b members answers) (λ e. begins_as_from t w i (place_of w n) b members answers)
 begins_from (leads l) w i n b members answers = tt
 begins_from (has_led r) w i n b members answers = tt
 

@@ -12,17 +12,17 @@ use Rattle.hd_base.specs.declared.roads.TheConstants.{FIRST_PORT}
 use Rattle.road_traffic.specs.Showing.{Net, IsSane, EndIs, flushed_net}
 use Rattle.road_traffic.specs.Traffic.{Traffic, Fits, more, closes_if, flushes}
 use Rattle.road_traffic.proofs.TrafficLemmas.{each-traffic, same-itself}
-use Rattle.world.specs.declared.events.Event.{Event}
-use Rattle.world.specs.declared.events.Event.TheVariants as event
-use Rattle.world.specs.Connections.{lesser, lost_marks, stopped_marks, is_of_node, touches}
-use Rattle.world.specs.Events.{happens, outcome, after_event, where_so, stop}
-use Rattle.world.specs.Parts.{Message, Marks}
-use Rattle.world.specs.Worlds.{World, put}
+use Rattle.world_laws.specs.World.Event.{Event}
+use Rattle.world_laws.specs.World.Event.TheVariants as event
+use Rattle.world_laws.specs.World.Connections.{lesser, lost_marks, stopped_marks, is_of_node, touches}
+use Rattle.world_laws.specs.World.Events.{happens, outcome, after_event, where_so, stop}
+use Rattle.world_laws.specs.World.Parts.{Message, Marks}
+use Rattle.world_laws.specs.World.Worlds.{World, put}
 use Rattle.world_cuts.specs.Cutting.{cut_world, IsCut, CutsAreLosses}
 use Rattle.world_laws.proofs.FactTables.{and-left}
-use Rattle.world_nets.specs.Nets.{IsRow, AreRows, IsNetOf, held_by, is_over}
-use Rattle.world_nets.specs.Rows.{Row, rows_of, text_of}
-use Rattle.world_nets.specs.Steps.{LossesAreNets}
+use Rattle.world_cuts.specs.WorldNets.Nets.{IsRow, AreRows, IsNetOf, held_by, is_over}
+use Rattle.world_cuts.specs.WorldNets.Rows.{Row, rows_of, text_of}
+use Rattle.world_cuts.specs.WorldNets.Steps.{LossesAreNets}
 use Rattle.world_stops.specs.Stopping.{all_cut, is_among, AreOfNode, StopsNet, StopsAreCuts, HasEnded, StopsEnd, EndedStay}
 
 -- CUTS

@@ -1,9 +1,9 @@
 -- From which node a connection was dialled.
 use Rattle.std.specs.Prelude.{ℕ, ◌≡◌, ◌<◌, List, Option, Some, None}
-use Rattle.world.specs.declared.events.Event.{Event}
-use Rattle.world.specs.Parts.{Upper, by_writer, by_member, by_reader, by_primary, Place, Dialled}
-use Rattle.world.specs.Worlds.{World, start}
-use Rattle.world.specs.Events.{run}
+use Rattle.world_laws.specs.World.Event.{Event}
+use Rattle.world_laws.specs.World.Parts.{Upper, by_writer, by_member, by_reader, by_primary, Place, Dialled}
+use Rattle.world_laws.specs.World.Worlds.{World, start}
+use Rattle.world_laws.specs.World.Events.{run}
 
 -- A writer and a reader dial from no node, and a member from its own, in the life in which it took its request.
 abbrev pub IsFrom : (ℕ → Dialled) → Upper → Option Place → Type 0

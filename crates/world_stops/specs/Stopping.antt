@@ -8,12 +8,12 @@ use Rattle.hd_base.specs.declared.numbers.ConnId.{ConnId}
 use Rattle.hd_base.specs.declared.numbers.NodeId.{NodeId}
 use Rattle.hd_base.specs.declared.roads.TheConstants.{FIRST_PORT}
 use Rattle.road_traffic.specs.Showing.{Net, IsSane, listened_net, flushed_net, lost_net}
-use Rattle.world.specs.declared.events.Event.TheVariants as event
-use Rattle.world.specs.Connections.{is_of_node}
-use Rattle.world.specs.Events.{happens}
-use Rattle.world.specs.Worlds.{World}
-use Rattle.world_nets.specs.Nets.{IsNetOf, IsEndOf, is_over}
-use Rattle.world_nets.specs.Rows.{rows_of}
+use Rattle.world_laws.specs.World.Event.TheVariants as event
+use Rattle.world_laws.specs.World.Connections.{is_of_node}
+use Rattle.world_laws.specs.World.Events.{happens}
+use Rattle.world_laws.specs.World.Worlds.{World}
+use Rattle.world_cuts.specs.WorldNets.Nets.{IsNetOf, IsEndOf, is_over}
+use Rattle.world_cuts.specs.WorldNets.Rows.{rows_of}
 use Rattle.world_cuts.specs.Cutting.{cut_world}
 
 -- CUTS

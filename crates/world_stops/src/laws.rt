@@ -4,9 +4,8 @@ ghost use Rattle.world_stops.specs.Origins.{DialsHaveOrigins};
 ghost use Rattle.world_stops.specs.Stopping.{EndedStay, StopsAreCuts, StopsEnd};
 
 use hd_base::{LinkIn, LinkOut};
-use world_cuts::cuts_are_losses;
+use world_cuts::{cuts_are_losses, losses_are_nets};
 use world_laws::{indices_are_in_range, the_past_only_grows};
-use world_nets::losses_are_nets;
 
 /// A writer and a reader dial from no node, and a member from its own.
 pub fn dials_have_origins()

@@ -4,3 +4,7 @@
 mod laws;
 
 pub use laws::{dials_have_origins, ended_connections_stay, stops_are_cuts, stops_end_connections};
+pub use world_cuts::{
+    cuts_are_losses, cuts_show, ends_elsewhere_stay, ends_stay_in_cuts, idle_flushes_are_nets,
+    nets_stay_sane,
+};

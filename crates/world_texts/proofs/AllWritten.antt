@@ -2,24 +2,24 @@
 use Rattle.std.proofs.Common.{◌≡◌, ℕ, ◌≤◌, ◌^◌, Bool, true, false, List, [], ◌∷◌, Option, Some, None, IfSome, refl, sym, subst, arith}
 use Rattle.std.specs.Prelude.{◌&&◌, not, nat_lt, if◌then◌else◌}
 use Rattle.std.proofs.lemmas.Option.{none-some}
-use Rattle.replica_model.specs.Rows.{FullReplica}
-use Rattle.replica_model.specs.Found.{Found}
-use Rattle.world.specs.declared.events.Delivery.{Delivery}
-use Rattle.world.specs.declared.events.Delivery.TheVariants as delivery
-use Rattle.world.specs.declared.events.Direction.{Direction}
-use Rattle.world.specs.declared.events.Direction.TheVariants as direction
-use Rattle.world.specs.declared.events.Event.{Event}
-use Rattle.world.specs.declared.events.Event.TheVariants as event
-use Rattle.world.specs.declared.events.FoundReplica.{FoundReplica}
-use Rattle.world.specs.declared.events.OwnStep.{OwnStep}
-use Rattle.world.specs.declared.events.OwnStep.TheVariants as own
-use Rattle.world.specs.Parts.{Upper, by_writer, by_member, by_reader, by_primary, Break}
-use Rattle.world.specs.Worlds.{World, Change, apply, start}
-use Rattle.world.specs.Connections.{Next, message, the_end, next_down, next_up, down_taken, up_taken, is_served}
-use Rattle.world.specs.Nodes.{lower_down, lower_ready}
-use Rattle.world.specs.Primaries.{office_event}
-use Rattle.world.specs.Restarts.{may_find, whole_found, replica_found, restarted, restart, found_in}
-use Rattle.world.specs.Events.{changed, own_change, down_as, down_event, ready_event, unless_fails, upper_up, up_as, up_event, fault_event, lost, stop, where_so, outcome, after_event, happens, run}
+use Rattle.world_laws.specs.ReplicaModel.Rows.{FullReplica}
+use Rattle.world_laws.specs.ReplicaModel.Found.{Found}
+use Rattle.world_laws.specs.World.Delivery.{Delivery}
+use Rattle.world_laws.specs.World.Delivery.TheVariants as delivery
+use Rattle.world_laws.specs.World.Direction.{Direction}
+use Rattle.world_laws.specs.World.Direction.TheVariants as direction
+use Rattle.world_laws.specs.World.Event.{Event}
+use Rattle.world_laws.specs.World.Event.TheVariants as event
+use Rattle.world_laws.specs.World.FoundReplica.{FoundReplica}
+use Rattle.world_laws.specs.World.OwnStep.{OwnStep}
+use Rattle.world_laws.specs.World.OwnStep.TheVariants as own
+use Rattle.world_laws.specs.World.Parts.{Upper, by_writer, by_member, by_reader, by_primary, Break}
+use Rattle.world_laws.specs.World.Worlds.{World, Change, apply, start}
+use Rattle.world_laws.specs.World.Connections.{Next, message, the_end, next_down, next_up, down_taken, up_taken, is_served}
+use Rattle.world_laws.specs.World.Nodes.{lower_down, lower_ready}
+use Rattle.world_laws.specs.World.Primaries.{office_event}
+use Rattle.world_laws.specs.World.Restarts.{may_find, whole_found, replica_found, restarted, restart, found_in}
+use Rattle.world_laws.specs.World.Events.{changed, own_change, down_as, down_event, ready_event, unless_fails, upper_up, up_as, up_event, fault_event, lost, stop, where_so, outcome, after_event, happens, run}
 use Rattle.world_laws.specs.Stamping.{Givens, none_given, given_with, stamped_in, given_by, heard, Recorded}
 use Rattle.world_laws.specs.Carrying.{Carried}
 use Rattle.world_laws.proofs.AllCarried.{down-taken-facts, up-taken-facts, next-sent, happens-carried, reached-facts, start-carried, at-start}

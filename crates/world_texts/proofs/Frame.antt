@@ -6,17 +6,17 @@ use Rattle.std.proofs.lemmas.Option.{none-some}
 use mir.Val.{SFits}
 use Rattle.hd_base.specs.SumRules.{IsChunkSize}
 use Rattle.name_core.specs.declared.calls.OfficeAnswer.TheVariants as office
-use Rattle.member_core.specs.Members.{MemberState}
-use Rattle.packet_codec.specs.declared.packets.Packet.{Packet}
-use Rattle.packet_stream.specs.declared.extents.TheConstants.{BLOCK_LIMIT}
-use Rattle.packet_stream.specs.Streams.{packet_end}
+use Rattle.world_laws.specs.MemberCore.Members.{MemberState}
+use Rattle.world_laws.specs.PacketCodec.Packet.{Packet}
+use Rattle.world_laws.specs.PacketStream.TheConstants.{BLOCK_LIMIT}
+use Rattle.world_laws.specs.PacketStream.Streams.{packet_end}
 use Rattle.replica_core.specs.declared.ack_queue.PendingPacket.{PendingPacket}
-use Rattle.replica_model.specs.Rows.{FullReplica}
-use Rattle.writer_core.specs.declared.phases.Phase.{Phase}
-use Rattle.writer_core.specs.declared.phases.Phase.TheVariants as phase
-use Rattle.writer_core.specs.declared.records.WriterRecord.{WriterRecord}
-use Rattle.world.specs.Parts.{FullMember, Lower, writes, serves, Told, Writing, Primary, no_primary, was_told, leads, has_led}
-use Rattle.world.specs.Worlds.{World, Dial, Change, apply, put_at, listed, dial_at}
+use Rattle.world_laws.specs.ReplicaModel.Rows.{FullReplica}
+use Rattle.world_laws.specs.WriterCore.Phase.{Phase}
+use Rattle.world_laws.specs.WriterCore.Phase.TheVariants as phase
+use Rattle.world_laws.specs.WriterCore.WriterRecord.{WriterRecord}
+use Rattle.world_laws.specs.World.Parts.{FullMember, Lower, writes, serves, Told, Writing, Primary, no_primary, was_told, leads, has_led}
+use Rattle.world_laws.specs.World.Worlds.{World, Dial, Change, apply, put_at, listed, dial_at}
 use Rattle.world_laws.specs.Stamping.{heard}
 use Rattle.world_laws.proofs.ByteFrame.{Each, each-nil, each-one, each-append}
 use Rattle.world_laws.proofs.FactTables.{if-each, put-each}

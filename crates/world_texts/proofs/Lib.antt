@@ -12,3 +12,5 @@ pub mod Clients
 pub mod Primaries
 pub mod Sessions
 pub mod AllWritten
+pub mod WorldLaws
+pub mod WorldNets

@@ -11,34 +11,34 @@ use Rattle.hd_base.specs.Results.{◌>>=◌}
 use Rattle.hd_base.specs.SumRules.{Rule}
 use Rattle.op_headers.specs.declared.nodes.NodeRef.{NodeRef}
 use Rattle.op_headers.specs.Values.{WriteFields}
-use Rattle.node_refs.specs.NodeRefs.{uuid_of, port_of, ref_of}
+use Rattle.world_laws.specs.NodeRefs.NodeRefs.{uuid_of, port_of, ref_of}
 use Rattle.replica_core.specs.declared.ack_queue.PendingPacket.{PendingPacket}
 use Rattle.replica_core.specs.declared.events.Answer.{Answer}
 use Rattle.replica_core.specs.declared.events.Answer.TheVariants as answer
 use Rattle.replica_core.specs.declared.events.Event.{Event}
 use Rattle.replica_core.specs.Views.{rule_in}
-use Rattle.replica_model.specs.declared.events.ReplicaEvent.{ReplicaEvent}
-use Rattle.replica_model.specs.declared.events.ReplicaEvent.TheVariants as replica_event
-use Rattle.replica_model.specs.Rows.{FullReplica, IsFull, IsOther, row, row_answer}
-use Rattle.request_refusals.specs.declared.refusals.RequestRefusal.{RequestRefusal}
-use Rattle.request_refusals.specs.declared.refusals.RequestRefusal.TheVariants as refusal
-use Rattle.request_refusals.specs.Pools.{is_in_pool}
-use Rattle.member_core.specs.declared.effects.Upward.{Upward}
-use Rattle.member_core.specs.declared.effects.SetupAnswer.TheVariants as setup_answer
-use Rattle.member_core.specs.declared.member.Mirror.{Mirror}
-use Rattle.member_core.specs.declared.member.Mirror.TheVariants as mirror
-use Rattle.member_core.specs.declared.requests.SetupKind.{SetupKind}
-use Rattle.member_core.specs.declared.requests.SetupKind.TheVariants as setup
-use Rattle.member_core.specs.declared.requests.TheConstants.{MAX_BELOW, MAX_PORT}
-use Rattle.member_core.specs.declared.turns.Booked.TheVariants as booked
-use Rattle.member_core.specs.declared.turns.Turn.{Turn}
-use Rattle.member_core.specs.Members.{MemberState, set_up, set_up_at, mirror_for, down_turn, hears}
-use Rattle.member_core.specs.Requests.{setup_with, rule_for, named_setup, named_rule, setup_event, request_event, request_from, request_to, mirror_request}
-use Rattle.member_core.specs.Steps.{Step, Setup, step, faulted_step, outcome_of, oldest_at, ready_turn_at, replica_after, refused_by, refused_request, booked_request, request_at, request_step, faulted_request}
-use Rattle.world.specs.Parts.{Message, request, packet, ack, response, read_status, recovery_answer, FullMember, Break}
-use Rattle.world.specs.Worlds.{World, Dial}
-use Rattle.world.specs.Connections.{Next, message, the_end, sent_on}
-use Rattle.world.specs.Nodes.{replica_at, node_of, block_of, closing, unless_failing, above_of, below_of, sent_up, passed, member_change, failing_turn, turn_change, takes_next, pending_at, member_down, member_up, ready_change, member_ready, is_asked, mirror_dial, mirror_node, dials_of, member_dials, lower_of, setup_change, failing_write, write_request}
+use Rattle.world_laws.specs.ReplicaModel.ReplicaEvent.{ReplicaEvent}
+use Rattle.world_laws.specs.ReplicaModel.ReplicaEvent.TheVariants as replica_event
+use Rattle.world_laws.specs.ReplicaModel.Rows.{FullReplica, IsFull, IsOther, row, row_answer}
+use Rattle.world_laws.specs.RequestRefusals.RequestRefusal.{RequestRefusal}
+use Rattle.world_laws.specs.RequestRefusals.RequestRefusal.TheVariants as refusal
+use Rattle.world_laws.specs.RequestRefusals.Pools.{is_in_pool}
+use Rattle.world_laws.specs.MemberCore.Upward.{Upward}
+use Rattle.world_laws.specs.MemberCore.SetupAnswer.TheVariants as setup_answer
+use Rattle.world_laws.specs.MemberCore.Mirror.{Mirror}
+use Rattle.world_laws.specs.MemberCore.Mirror.TheVariants as mirror
+use Rattle.world_laws.specs.MemberCore.SetupKind.{SetupKind}
+use Rattle.world_laws.specs.MemberCore.SetupKind.TheVariants as setup
+use Rattle.world_laws.specs.MemberCore.TheConstants.{MAX_BELOW, MAX_PORT}
+use Rattle.world_laws.specs.MemberCore.Booked.TheVariants as booked
+use Rattle.world_laws.specs.MemberCore.Turn.{Turn}
+use Rattle.world_laws.specs.MemberCore.Members.{MemberState, set_up, set_up_at, mirror_for, down_turn, hears}
+use Rattle.world_laws.specs.MemberCore.Requests.{setup_with, rule_for, named_setup, named_rule, setup_event, request_event, request_from, request_to, mirror_request}
+use Rattle.world_laws.specs.MemberCore.Steps.{Step, Setup, step, faulted_step, outcome_of, oldest_at, ready_turn_at, replica_after, refused_by, refused_request, booked_request, request_at, request_step, faulted_request}
+use Rattle.world_laws.specs.World.Parts.{Message, request, packet, ack, response, read_status, recovery_answer, FullMember, Break}
+use Rattle.world_laws.specs.World.Worlds.{World, Dial}
+use Rattle.world_laws.specs.World.Connections.{Next, message, the_end, sent_on}
+use Rattle.world_laws.specs.World.Nodes.{replica_at, node_of, block_of, closing, unless_failing, above_of, below_of, sent_up, passed, member_change, failing_turn, turn_change, takes_next, pending_at, member_down, member_up, ready_change, member_ready, is_asked, mirror_dial, mirror_node, dials_of, member_dials, lower_of, setup_change, failing_write, write_request}
 use Rattle.world_laws.proofs.ByteFrame.{Each, each-nil, each-one}
 use Rattle.world_laws.proofs.FactTables.{if-each, when-each}
 use Rattle.world_laws.proofs.Lawful.{request-other}

@@ -20,23 +20,23 @@ use Rattle.op_headers.specs.declared.ops.Op.TheVariants as op
 use Rattle.op_headers.specs.declared.ops.RecoveryKind.{RecoveryKind}
 use Rattle.op_headers.specs.declared.ops.RecoveryKind.TheVariants as kind
 use Rattle.op_headers.specs.Recoveries.{HasItsLength, HasItsTargets}
-use Rattle.recovery_core.specs.declared.primary.OwnStep.{OwnStep}
-use Rattle.recovery_core.specs.declared.primary.OwnStep.TheVariants as own
-use Rattle.recovery_core.specs.declared.primary.Phase.{Phase}
-use Rattle.recovery_core.specs.declared.primary.Phase.TheVariants as phase
-use Rattle.recovery_core.specs.declared.standings.Heard.{Heard}
-use Rattle.recovery_core.specs.declared.standings.Standing.{Standing}
-use Rattle.recovery_core.specs.Primaries.{PrimaryState, OwnTaken, taken, begun_with, infos, updated_members, choosing, committing, own_at, own_step, waits, request_of, heard_as, heard_at, is_among}
-use Rattle.writer_core.specs.declared.actions.Action.{Action}
-use Rattle.writer_core.specs.declared.actions.Action.TheVariants as action
-use Rattle.writer_core.specs.Transitions as writer
-use Rattle.world.specs.declared.events.Caller.{Caller}
-use Rattle.world.specs.declared.events.Caller.TheVariants as caller
-use Rattle.world.specs.Parts.{Message, request, Place, Told, Leading, Primary, no_primary, was_told, leads, has_led}
-use Rattle.world.specs.Worlds.{World, Dial, Change, put, past_after, apply}
-use Rattle.world.specs.Connections.{Next, is_alive, is_conn, place_of}
-use Rattle.world.specs.Clients.{are_members}
-use Rattle.world.specs.Primaries.{primary_change, dials_answered, primary_dials, begins_with, begins_as, begins_at, own_recover, updates_on, updates_change, leads_step, commits_step, leads_told, own_primary_as, own_primary, heard_of, listens, hears_change, primary_up_as, primary_up, asks_writer, asks_primary, writer_asks, primary_commits, primary_asks, office_event}
+use Rattle.world_laws.specs.RecoveryCore.OwnStep.{OwnStep}
+use Rattle.world_laws.specs.RecoveryCore.OwnStep.TheVariants as own
+use Rattle.world_laws.specs.RecoveryCore.Phase.{Phase}
+use Rattle.world_laws.specs.RecoveryCore.Phase.TheVariants as phase
+use Rattle.world_laws.specs.RecoveryCore.Heard.{Heard}
+use Rattle.world_laws.specs.RecoveryCore.Standing.{Standing}
+use Rattle.world_laws.specs.RecoveryCore.Primaries.{PrimaryState, OwnTaken, taken, begun_with, infos, updated_members, choosing, committing, own_at, own_step, waits, request_of, heard_as, heard_at, is_among}
+use Rattle.world_laws.specs.WriterCore.Action.{Action}
+use Rattle.world_laws.specs.WriterCore.Action.TheVariants as action
+use Rattle.world_laws.specs.WriterCore.Transitions as writer
+use Rattle.world_laws.specs.World.Caller.{Caller}
+use Rattle.world_laws.specs.World.Caller.TheVariants as caller
+use Rattle.world_laws.specs.World.Parts.{Message, request, Place, Told, Leading, Primary, no_primary, was_told, leads, has_led}
+use Rattle.world_laws.specs.World.Worlds.{World, Dial, Change, put, past_after, apply}
+use Rattle.world_laws.specs.World.Connections.{Next, is_alive, is_conn, place_of}
+use Rattle.world_laws.specs.World.Clients.{are_members}
+use Rattle.world_laws.specs.World.Primaries.{primary_change, dials_answered, primary_dials, begins_with, begins_as, begins_at, own_recover, updates_on, updates_change, leads_step, commits_step, leads_told, own_primary_as, own_primary, heard_of, listens, hears_change, primary_up_as, primary_up, asks_writer, asks_primary, writer_asks, primary_commits, primary_asks, office_event}
 use Rattle.world_laws.specs.Stamping.{Givens, known_heard, heard}
 use Rattle.world_laws.specs.Carrying.{PrimarySays, LeadingSays, PhaseSays, LiesIn}
 use Rattle.world_laws.proofs.ByteAsking.{Keeps}

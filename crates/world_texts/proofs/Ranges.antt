@@ -1,12 +1,12 @@
 -- The numbers of what a world holds, where the stamps and the sessions' lengths have 64 bits.
 use Rattle.std.proofs.Common.{◌≡◌, ℕ, ◌≤◌, ◌^◌, List, length, Option, Some, None, IfSome, refl, arith}
 use Rattle.hd_base.specs.declared.numbers.Stamp.{Stamp}
-use Rattle.packet_stream.specs.declared.extents.TheConstants.{BLOCK_LIMIT}
+use Rattle.world_laws.specs.PacketStream.TheConstants.{BLOCK_LIMIT}
 use Rattle.replica_core.specs.declared.info.ReplicaInfo.{ReplicaInfo}
 use Rattle.replica_core.specs.Sound.{IsConsistent}
 use Rattle.replica_core.specs.Views.{written_at}
-use Rattle.replica_model.specs.Rows.{FullReplica}
-use Rattle.world.specs.Worlds.{World}
+use Rattle.world_laws.specs.ReplicaModel.Rows.{FullReplica}
+use Rattle.world_laws.specs.World.Worlds.{World}
 use Rattle.world_laws.specs.Stamping.{Givens}
 use Rattle.world_laws.specs.Carrying.{Under, Holds}
 use Rattle.world_laws.proofs.ByteLeaves.{Facts}

@@ -19,9 +19,9 @@ use Rattle.replica_core.specs.declared.refusals.Refusal.TheVariants as refusal
 use Rattle.replica_core.specs.Refusals.{check, refusal_number}
 use Rattle.replica_core.specs.Transitions.{Taken, Outcome, done, reply, answer_of, answer_to, there, present, set_writer, with_writer, transition}
 use Rattle.replica_core.specs.Info.{is_finalized, is_rbw, is_temporary, state_of, is_within, reopen, recover_setup, recover_stream, settled_at, cut_to_acked, begin_recovery, end_recovery, readable, visible_under, visible_of, is_free_for, holder}
-use Rattle.request_refusals.specs.declared.refusals.RequestRefusal.{RequestRefusal}
-use Rattle.request_refusals.specs.declared.refusals.RequestRefusal.TheVariants as request
-use Rattle.request_refusals.specs.Texts.{request_refusal_number, spaced, kept_text, values_text, refusal_text}
+use Rattle.world_laws.specs.RequestRefusals.RequestRefusal.{RequestRefusal}
+use Rattle.world_laws.specs.RequestRefusals.RequestRefusal.TheVariants as request
+use Rattle.world_laws.specs.RequestRefusals.Texts.{request_refusal_number, spaced, kept_text, values_text, refusal_text}
 
 -- NUMBERS
 

@@ -21,9 +21,9 @@ use Rattle.replica_core.specs.Views.{rule_in}
 use Rattle.replica_core.specs.Extents.{heartbeat_of, stream_after, start_of, place_check, unless_bad, packet_at, pending_of, sum_count}
 use Rattle.replica_core.specs.Transitions.{Taken, Outcome, record_after, present, with_writer, stream_by, enqueue, extent_transition, acknowledge, oldest_of, is_written_by, transition}
 use Rattle.replica_core.specs.Info.{reopen, recover_setup, recover_stream, begin_recovery, end_recovery, readable, visible_of, given}
-use Rattle.replica_model.specs.declared.events.ReplicaEvent.{ReplicaEvent}
-use Rattle.replica_model.specs.declared.events.ReplicaEvent.TheVariants as replica_event
-use Rattle.replica_model.specs.Rows.{FullReplica, IsOther, record_event, event_at, row, broken}
+use Rattle.world_laws.specs.ReplicaModel.ReplicaEvent.{ReplicaEvent}
+use Rattle.world_laws.specs.ReplicaModel.ReplicaEvent.TheVariants as replica_event
+use Rattle.world_laws.specs.ReplicaModel.Rows.{FullReplica, IsOther, record_event, event_at, row, broken}
 use Rattle.world_laws.proofs.ByteFrame.{Each, each-nil, each-one, each-tail, each-append}
 use Rattle.world_laws.proofs.FactTables.{if-each}
 use Rattle.world_texts.proofs.Frame.{PendingFits, ReplicaFits}

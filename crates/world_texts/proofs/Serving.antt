@@ -17,23 +17,23 @@ use Rattle.replica_core.specs.declared.events.Event.{Event}
 use Rattle.replica_core.specs.declared.events.Event.TheVariants as event
 use Rattle.replica_core.specs.declared.info.ReplicaInfo.{ReplicaInfo}
 use Rattle.replica_core.specs.Views.{rule_in}
-use Rattle.replica_model.specs.declared.events.ReplicaEvent.{ReplicaEvent}
-use Rattle.replica_model.specs.declared.events.ReplicaEvent.TheVariants as replica_event
-use Rattle.replica_model.specs.Rows.{FullReplica, IsFull, IsOther, row_answer}
-use Rattle.request_refusals.specs.declared.refusals.RequestRefusal.{RequestRefusal}
-use Rattle.request_refusals.specs.declared.refusals.RequestRefusal.TheVariants as refusal
-use Rattle.request_refusals.specs.Pools.{is_in_pool}
-use Rattle.read_core.specs.declared.serving.ServePhase.{ServePhase}
-use Rattle.read_core.specs.declared.serving.ServePhase.TheVariants as phase
-use Rattle.read_core.specs.Servings.{ServingState, most_bytes, read_event, begun, piece_len, sent_before, piece_event, next_call, packet_of, piece_of, gone_on, sent_in, sent, accepting, refusing, begun_as, begun_at, read_at, faulted_read, piece_as}
-use Rattle.recovery_core.specs.declared.members.RecoveryReply.{RecoveryReply}
-use Rattle.recovery_core.specs.declared.members.RecoveryReply.TheVariants as reply
-use Rattle.recovery_core.specs.Members.{Served, step_event, recovery_event, reply_to, answer_of, served_as, serve, serve_faulted}
-use Rattle.world.specs.Parts.{Message, request, packet, ack, response, read_status, recovery_answer, Lower, idle, writes, serves, recovers, ended_below, Break}
-use Rattle.world.specs.Worlds.{World, Dial, still}
-use Rattle.world.specs.Connections.{Next, message, the_end, is_alive, sent_on}
-use Rattle.world.specs.Nodes.{node_of, replica_at, closing, unless_failing, breaking, read_change, failing_read, read_request, serve_change, recovery_change, failing_recovery, recovery_request, first_message, next_recovery, lower_down, lower_ready, mirror_up}
-use Rattle.world.specs.Nodes as nodes
+use Rattle.world_laws.specs.ReplicaModel.ReplicaEvent.{ReplicaEvent}
+use Rattle.world_laws.specs.ReplicaModel.ReplicaEvent.TheVariants as replica_event
+use Rattle.world_laws.specs.ReplicaModel.Rows.{FullReplica, IsFull, IsOther, row_answer}
+use Rattle.world_laws.specs.RequestRefusals.RequestRefusal.{RequestRefusal}
+use Rattle.world_laws.specs.RequestRefusals.RequestRefusal.TheVariants as refusal
+use Rattle.world_laws.specs.RequestRefusals.Pools.{is_in_pool}
+use Rattle.world_laws.specs.ReadCore.ServePhase.{ServePhase}
+use Rattle.world_laws.specs.ReadCore.ServePhase.TheVariants as phase
+use Rattle.world_laws.specs.ReadCore.Servings.{ServingState, most_bytes, read_event, begun, piece_len, sent_before, piece_event, next_call, packet_of, piece_of, gone_on, sent_in, sent, accepting, refusing, begun_as, begun_at, read_at, faulted_read, piece_as}
+use Rattle.world_laws.specs.RecoveryCore.RecoveryReply.{RecoveryReply}
+use Rattle.world_laws.specs.RecoveryCore.RecoveryReply.TheVariants as reply
+use Rattle.world_laws.specs.RecoveryCore.Members.{Served, step_event, recovery_event, reply_to, answer_of, served_as, serve, serve_faulted}
+use Rattle.world_laws.specs.World.Parts.{Message, request, packet, ack, response, read_status, recovery_answer, Lower, idle, writes, serves, recovers, ended_below, Break}
+use Rattle.world_laws.specs.World.Worlds.{World, Dial, still}
+use Rattle.world_laws.specs.World.Connections.{Next, message, the_end, is_alive, sent_on}
+use Rattle.world_laws.specs.World.Nodes.{node_of, replica_at, closing, unless_failing, breaking, read_change, failing_read, read_request, serve_change, recovery_change, failing_recovery, recovery_request, first_message, next_recovery, lower_down, lower_ready, mirror_up}
+use Rattle.world_laws.specs.World.Nodes as nodes
 use Rattle.world_laws.proofs.ByteFrame.{Each, each-nil, each-one}
 use Rattle.world_laws.proofs.FactTables.{if-each, when-each}
 use Rattle.world_laws.proofs.Lawful.{recovery-other}

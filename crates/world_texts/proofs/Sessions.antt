@@ -11,10 +11,10 @@ use Rattle.name_core.specs.declared.records.BlockRecord.{BlockRecord}
 use Rattle.name_core.specs.Offices.{OfficeState, record_of, office_case}
 use Rattle.name_core.specs.Steps.{Step, reply}
 use Rattle.name_core.proofs.CaseLemmas.{each_case}
-use Rattle.writer_core.specs.declared.records.WriterRecord.{WriterRecord}
-use Rattle.world.specs.Parts.{Writing}
-use Rattle.world.specs.Worlds.{World, Stamped, Change, put, add, apply}
-use Rattle.world.specs.Primaries.{stamped_by, base_of, session_begun}
+use Rattle.world_laws.specs.WriterCore.WriterRecord.{WriterRecord}
+use Rattle.world_laws.specs.World.Parts.{Writing}
+use Rattle.world_laws.specs.World.Worlds.{World, Stamped, Change, put, add, apply}
+use Rattle.world_laws.specs.World.Primaries.{stamped_by, base_of, session_begun}
 use Rattle.world_laws.specs.Stamping.{Givens, given_with, heard, Entries, HeldOf, Recorded}
 use Rattle.world_laws.proofs.ByteLeaves.{Facts, before-of}
 use Rattle.world_laws.proofs.ByteOffices.{Answered, old-written}

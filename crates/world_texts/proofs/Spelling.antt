@@ -6,19 +6,19 @@ use Rattle.std.specs.Int.{w64}
 use mir.Val.{SFits}
 use Rattle.hd_base.specs.declared.states.Status.{Status}
 use Rattle.hd_base.specs.Wire.{IsStatus, status_number}
-use Rattle.ack_codec.specs.declared.acks.Ack.{Ack}
-use Rattle.ack_codec.specs.declared.responses.Response.{Response}
-use Rattle.ack_codec.specs.Acks.{SpellsAck, SpellsReadStatus}
-use Rattle.ack_codec.specs.AckTexts.{zigzag, reply_text, ack_message, ack_text}
-use Rattle.ack_codec.specs.Responses.{SpellsResponse}
-use Rattle.ack_codec.specs.ResponseTexts.{HasListedKind, HasWidths, response_text}
-use Rattle.ack_codec.proofs.AckTextLemmas.{varint_field_few, varint_field_most, ack_text_spells}
-use Rattle.ack_codec.proofs.ResponseTextLemmas.{response_text_spells, response_message_few}
-use Rattle.packet_codec.specs.declared.packets.Packet.{Packet}
-use Rattle.packet_codec.specs.Frames.{limit}
-use Rattle.packet_codec.specs.Headers.{header_size}
-use Rattle.packet_codec.specs.Packets.{SpellsPacket, payload_for, packet_text}
-use Rattle.packet_codec.proofs.WrittenLemmas.{packet_text_spells}
+use Rattle.world_laws.specs.AckCodec.Ack.{Ack}
+use Rattle.world_laws.specs.AckCodec.Response.{Response}
+use Rattle.world_laws.specs.AckCodec.Acks.{SpellsAck, SpellsReadStatus}
+use Rattle.world_laws.specs.AckCodec.AckTexts.{zigzag, reply_text, ack_message, ack_text}
+use Rattle.world_laws.specs.AckCodec.Responses.{SpellsResponse}
+use Rattle.world_laws.specs.AckCodec.ResponseTexts.{HasListedKind, HasWidths, response_text}
+use Rattle.world_laws.proofs.AckCodec.AckTextLemmas.{varint_field_few, varint_field_most, ack_text_spells}
+use Rattle.world_laws.proofs.AckCodec.ResponseTextLemmas.{response_text_spells, response_message_few}
+use Rattle.world_laws.specs.PacketCodec.Packet.{Packet}
+use Rattle.world_laws.specs.PacketCodec.Frames.{limit}
+use Rattle.world_laws.specs.PacketCodec.Headers.{header_size}
+use Rattle.world_laws.specs.PacketCodec.Packets.{SpellsPacket, payload_for, packet_text}
+use Rattle.world_laws.proofs.PacketCodec.WrittenLemmas.{packet_text_spells}
 use Rattle.op_headers.specs.declared.nodes.NodeRef.{NodeRef}
 use Rattle.op_headers.specs.declared.ops.Op.{Op}
 use Rattle.op_headers.specs.declared.ops.Op.TheVariants as op
@@ -37,15 +37,15 @@ use Rattle.op_headers.specs.Recoveries.{HasItsLength, HasItsTargets}
 use Rattle.op_headers.specs.Answers.{SpellsAnswer, answer_table, answer_from, answer_to_encode, answer_format, answer_text}
 use Rattle.op_headers.proofs.AnswerLemmas.{InfoFits, answer_fits}
 use Rattle.op_headers.proofs.TextLemmas.{IsWritten, written_by_table}
-use Rattle.proto_fields.specs.Fields.{Spells}
-use Rattle.proto_fields.specs.Varint.{least_varint}
-use Rattle.proto_fields.specs.Writing.{varint_field}
-use Rattle.proto_fields.specs.declared.reading.Wire.TheVariants as wire
-use Rattle.proto_fields.proofs.VarintLemmas.{least_varint_spells}
-use Rattle.proto_fields.proofs.WrittenLemmas.{varint_field_spells, varint_field_within, SpellsFrom-cons}
-use Rattle.proto_fields.proofs.StatusLemmas.{decoded_status_number}
+use Rattle.world_nets.specs.ProtoFields.Fields.{Spells}
+use Rattle.world_nets.specs.ProtoFields.Varint.{least_varint}
+use Rattle.world_nets.specs.ProtoFields.Writing.{varint_field}
+use Rattle.world_nets.specs.ProtoFields.Wire.TheVariants as wire
+use Rattle.world_nets.proofs.ProtoFields.VarintLemmas.{least_varint_spells}
+use Rattle.world_nets.proofs.ProtoFields.WrittenLemmas.{varint_field_spells, varint_field_within, SpellsFrom-cons}
+use Rattle.world_nets.proofs.ProtoFields.StatusLemmas.{decoded_status_number}
 use Rattle.world_nets.specs.Rows.{with_length}
-use Rattle.world.specs.Parts.{Message, request, packet, ack, response, read_status, recovery_answer}
+use Rattle.world_laws.specs.World.Parts.{Message, request, packet, ack, response, read_status, recovery_answer}
 use Rattle.world_texts.specs.Texts.{CanBeAsked, SpellsText}
 
 -- ACKS

@@ -9,9 +9,9 @@ use mir.Val.{SFits, sel}
 use Rattle.hd_base.specs.declared.sum_rule.SumKind.{SumKind}
 use Rattle.hd_base.specs.declared.sum_rule.SumKind.TheVariants as kind
 use Rattle.hd_base.specs.SumRules.{kind_number}
-use Rattle.chunk_sums.specs.Crc.{sum_of}
-use Rattle.chunk_sums.specs.Chunks.{cut, summed_chunks, sums_of}
-use Rattle.chunk_sums.proofs.ChunkLemmas.{length-flat_sums}
+use Rattle.world_laws.specs.ChunkSums.Crc.{sum_of}
+use Rattle.world_laws.specs.ChunkSums.Chunks.{cut, summed_chunks, sums_of}
+use Rattle.world_laws.proofs.ChunkSums.ChunkLemmas.{length-flat_sums}
 
 pub kind-few : (k : SumKind) → kind_number k ≤ 2
 kind-few kind.Null = omega arith

@@ -11,36 +11,36 @@ use mir.Val.{SFits}
 use Rattle.hd_base.specs.declared.states.Status.{Status}
 use Rattle.hd_base.specs.declared.states.Status.TheVariants as status
 use Rattle.hd_base.specs.Wire.{IsStatus, status_number}
-use Rattle.ack_codec.specs.declared.acks.Ack.{Ack}
-use Rattle.ack_codec.specs.declared.responses.Response.{Response}
+use Rattle.world_laws.specs.AckCodec.Ack.{Ack}
+use Rattle.world_laws.specs.AckCodec.Response.{Response}
 use Rattle.op_headers.specs.declared.nodes.NodeRef.{NodeRef}
 use Rattle.op_headers.specs.Values.{WriteFields}
 use Rattle.replica_core.specs.declared.ack_queue.PendingPacket.{PendingPacket}
 use Rattle.replica_core.specs.declared.refusals.Refusal.{Refusal}
 use Rattle.replica_core.specs.declared.refusals.Refusal.TheVariants as refusal
-use Rattle.replica_model.specs.declared.events.ReplicaEvent.{ReplicaEvent}
-use Rattle.replica_model.specs.declared.events.ReplicaEvent.TheVariants as replica_event
-use Rattle.member_core.specs.declared.effects.Effect.{Effect}
-use Rattle.member_core.specs.declared.effects.SetupAnswer.{SetupAnswer}
-use Rattle.member_core.specs.declared.effects.SetupAnswer.TheVariants as answer
-use Rattle.member_core.specs.declared.effects.Shuts.{Shuts}
-use Rattle.member_core.specs.declared.effects.Shuts.TheVariants as shuts
-use Rattle.member_core.specs.declared.effects.Upward.{Upward}
-use Rattle.member_core.specs.declared.inputs.FromAbove.{FromAbove}
-use Rattle.member_core.specs.declared.inputs.FromAbove.TheVariants as above
-use Rattle.member_core.specs.declared.inputs.FromBelow.{FromBelow}
-use Rattle.member_core.specs.declared.inputs.FromBelow.TheVariants as below
-use Rattle.member_core.specs.declared.member.Mirror.{Mirror}
-use Rattle.member_core.specs.declared.member.Mirror.TheVariants as mirror
-use Rattle.member_core.specs.declared.turns.Booked.{Booked}
-use Rattle.member_core.specs.declared.turns.Booked.TheVariants as booked
-use Rattle.member_core.specs.declared.turns.Side.{Side}
-use Rattle.member_core.specs.declared.turns.Side.TheVariants as side
-use Rattle.member_core.specs.declared.turns.Turn.{Turn}
-use Rattle.member_core.specs.Acks.{is_success, failures, begins_with_bad_sum, are_replies, is_read, with_own, ack_of}
-use Rattle.member_core.specs.Members.{MemberState, down_turn, up_turn, up_at, setup_turn, answered_turn, accept_turn, fail_turn, stream_turn, ack_turn, pass_turn, failed_turn, good_turn, partial_turn, spoiled_turn, give_up_turn, named_bad, bad_turn, ready_turn, ready_at, quiet_turn, idle_turn, patient_turn, closed, closed_by, kept_bad, bad_sum, refused_turn, settled}
-use Rattle.member_core.specs.Requests.{first_address, failing, response_of}
-use Rattle.world.specs.Nodes.{upward_message}
+use Rattle.world_laws.specs.ReplicaModel.ReplicaEvent.{ReplicaEvent}
+use Rattle.world_laws.specs.ReplicaModel.ReplicaEvent.TheVariants as replica_event
+use Rattle.world_laws.specs.MemberCore.Effect.{Effect}
+use Rattle.world_laws.specs.MemberCore.SetupAnswer.{SetupAnswer}
+use Rattle.world_laws.specs.MemberCore.SetupAnswer.TheVariants as answer
+use Rattle.world_laws.specs.MemberCore.Shuts.{Shuts}
+use Rattle.world_laws.specs.MemberCore.Shuts.TheVariants as shuts
+use Rattle.world_laws.specs.MemberCore.Upward.{Upward}
+use Rattle.world_laws.specs.MemberCore.FromAbove.{FromAbove}
+use Rattle.world_laws.specs.MemberCore.FromAbove.TheVariants as above
+use Rattle.world_laws.specs.MemberCore.FromBelow.{FromBelow}
+use Rattle.world_laws.specs.MemberCore.FromBelow.TheVariants as below
+use Rattle.world_laws.specs.MemberCore.Mirror.{Mirror}
+use Rattle.world_laws.specs.MemberCore.Mirror.TheVariants as mirror
+use Rattle.world_laws.specs.MemberCore.Booked.{Booked}
+use Rattle.world_laws.specs.MemberCore.Booked.TheVariants as booked
+use Rattle.world_laws.specs.MemberCore.Side.{Side}
+use Rattle.world_laws.specs.MemberCore.Side.TheVariants as side
+use Rattle.world_laws.specs.MemberCore.Turn.{Turn}
+use Rattle.world_laws.specs.MemberCore.Acks.{is_success, failures, begins_with_bad_sum, are_replies, is_read, with_own, ack_of}
+use Rattle.world_laws.specs.MemberCore.Members.{MemberState, down_turn, up_turn, up_at, setup_turn, answered_turn, accept_turn, fail_turn, stream_turn, ack_turn, pass_turn, failed_turn, good_turn, partial_turn, spoiled_turn, give_up_turn, named_bad, bad_turn, ready_turn, ready_at, quiet_turn, idle_turn, patient_turn, closed, closed_by, kept_bad, bad_sum, refused_turn, settled}
+use Rattle.world_laws.specs.MemberCore.Requests.{first_address, failing, response_of}
+use Rattle.world_laws.specs.World.Nodes.{upward_message}
 use Rattle.world_laws.proofs.FactTables.{if-each, and-right}
 use Rattle.world_texts.proofs.Spelling.{AckFits, ResponseFits, PacketFits, NodesFit, WriteFits, MessageFits}
 use Rattle.world_texts.proofs.Frame.{StateFits, PendingFits}

@@ -10,8 +10,8 @@ use Rattle.std.proofs.Math.Nat.{max-le}
 use Rattle.hd_base.specs.declared.numbers.BlockId.{BlockId}
 use Rattle.hd_base.specs.declared.numbers.NodeId.{NodeId}
 use Rattle.hd_base.specs.declared.numbers.Stamp.{Stamp}
-use Rattle.ack_codec.specs.declared.acks.Ack.{Ack}
-use Rattle.ack_codec.specs.declared.responses.Response.{Response}
+use Rattle.world_laws.specs.AckCodec.Ack.{Ack}
+use Rattle.world_laws.specs.AckCodec.Response.{Response}
 use Rattle.name_core.specs.declared.calls.OfficeAnswer.{OfficeAnswer}
 use Rattle.name_core.specs.declared.calls.OfficeAnswer.TheVariants as office
 use Rattle.name_core.specs.declared.calls.Reopened.{Reopened}
@@ -21,40 +21,40 @@ use Rattle.name_core.specs.declared.records.TheConstants.{MAX_APPEND_LENGTH}
 use Rattle.op_headers.specs.declared.ops.Op.{Op}
 use Rattle.op_headers.specs.declared.ops.Op.TheVariants as op
 use Rattle.op_headers.specs.Stages.{stage_number}
-use Rattle.node_refs.specs.NodeRefs.{ref_of}
-use Rattle.packet_codec.specs.declared.packets.Packet.{Packet}
-use Rattle.packet_stream.specs.declared.extents.TheConstants.{BLOCK_LIMIT}
-use Rattle.packet_stream.specs.Extents.{greatest_end, chunk_rest}
-use Rattle.packet_stream.specs.Streams.{StreamState, IsStream, start_in, written_in, next_packet, sync_packet, last_packet, acked_packet, oldest_is_last, oldest_seqno}
-use Rattle.packet_stream.proofs.CarryLemmas.{next_is_short}
-use Rattle.writer_core.specs.declared.actions.Action.{Action}
-use Rattle.writer_core.specs.declared.actions.Action.TheVariants as action
-use Rattle.writer_core.specs.declared.commands.Command.{Command}
-use Rattle.writer_core.specs.declared.commands.Command.TheVariants as command
-use Rattle.writer_core.specs.declared.commands.CommandFault.{CommandFault}
-use Rattle.writer_core.specs.declared.commands.CommandFault.TheVariants as command_fault
-use Rattle.writer_core.specs.declared.intake.Intake.{Intake}
-use Rattle.writer_core.specs.declared.phases.DuePacket.{DuePacket}
-use Rattle.writer_core.specs.declared.phases.DuePacket.TheVariants as due
-use Rattle.writer_core.specs.declared.phases.Failure.{Failure}
-use Rattle.writer_core.specs.declared.phases.Phase.{Phase}
-use Rattle.writer_core.specs.declared.phases.Phase.TheVariants as phase
-use Rattle.writer_core.specs.declared.phases.Remedy.{Remedy}
-use Rattle.writer_core.specs.declared.phases.Remedy.TheVariants as remedy
-use Rattle.writer_core.specs.declared.phases.Setup.{Setup}
-use Rattle.writer_core.specs.declared.phases.Setup.TheVariants as setup
-use Rattle.writer_core.specs.declared.phases.SyncPacket.TheVariants as sync
-use Rattle.writer_core.specs.declared.phases.Verdict.{Verdict}
-use Rattle.writer_core.specs.declared.phases.Verdict.TheVariants as verdict
-use Rattle.writer_core.specs.declared.phases.Waiting.{Waiting}
-use Rattle.writer_core.specs.declared.phases.Waiting.TheVariants as waiting
-use Rattle.writer_core.specs.declared.records.WriterRecord.{WriterRecord}
-use Rattle.writer_core.specs.Commands.{command_length, fits, is_too_much, intake_after, admitted}
-use Rattle.writer_core.specs.Phases.{remedy_after, remedy_in, remedy_at_ack, is_success, ack_verdict, bad_place, without}
-use Rattle.writer_core.specs.Requests.{stage_of, min_length, max_length, latest_stamp, request_for}
-use Rattle.writer_core.specs.Sound.{Sound}
-use Rattle.writer_core.specs.Transitions.{Step, given_as, given, taken_as, take_first, free_step_as, free_step, failed_command, failed_first, failed_step_as, dial_step_as, open_step, accepted_step, completed_step, is_flushing, empty_due, due_in, due_now, form_step, reached_length, reach_step_as, due_step, stream_step_as, step_in, own_step, dropped, fail_for, fail_named, fail_at, ended_as, ended, phase_acked, acked_oldest, acked_as, acked_in, acked, setup_answered_in, setup_answered, dialled_in, dialled, refused, stamped, reopened, stamp_given, committed_as, commit_given, complete_given, granted_in, granted, asks}
-use Rattle.world.specs.Clients.{is_empty}
+use Rattle.world_laws.specs.NodeRefs.NodeRefs.{ref_of}
+use Rattle.world_laws.specs.PacketCodec.Packet.{Packet}
+use Rattle.world_laws.specs.PacketStream.TheConstants.{BLOCK_LIMIT}
+use Rattle.world_laws.specs.PacketStream.Extents.{greatest_end, chunk_rest}
+use Rattle.world_laws.specs.PacketStream.Streams.{StreamState, IsStream, start_in, written_in, next_packet, sync_packet, last_packet, acked_packet, oldest_is_last, oldest_seqno}
+use Rattle.world_laws.proofs.PacketStream.CarryLemmas.{next_is_short}
+use Rattle.world_laws.specs.WriterCore.Action.{Action}
+use Rattle.world_laws.specs.WriterCore.Action.TheVariants as action
+use Rattle.world_laws.specs.WriterCore.Command.{Command}
+use Rattle.world_laws.specs.WriterCore.Command.TheVariants as command
+use Rattle.world_laws.specs.WriterCore.CommandFault.{CommandFault}
+use Rattle.world_laws.specs.WriterCore.CommandFault.TheVariants as command_fault
+use Rattle.world_laws.specs.WriterCore.Intake.{Intake}
+use Rattle.world_laws.specs.WriterCore.DuePacket.{DuePacket}
+use Rattle.world_laws.specs.WriterCore.DuePacket.TheVariants as due
+use Rattle.world_laws.specs.WriterCore.Failure.{Failure}
+use Rattle.world_laws.specs.WriterCore.Phase.{Phase}
+use Rattle.world_laws.specs.WriterCore.Phase.TheVariants as phase
+use Rattle.world_laws.specs.WriterCore.Remedy.{Remedy}
+use Rattle.world_laws.specs.WriterCore.Remedy.TheVariants as remedy
+use Rattle.world_laws.specs.WriterCore.Setup.{Setup}
+use Rattle.world_laws.specs.WriterCore.Setup.TheVariants as setup
+use Rattle.world_laws.specs.WriterCore.SyncPacket.TheVariants as sync
+use Rattle.world_laws.specs.WriterCore.Verdict.{Verdict}
+use Rattle.world_laws.specs.WriterCore.Verdict.TheVariants as verdict
+use Rattle.world_laws.specs.WriterCore.Waiting.{Waiting}
+use Rattle.world_laws.specs.WriterCore.Waiting.TheVariants as waiting
+use Rattle.world_laws.specs.WriterCore.WriterRecord.{WriterRecord}
+use Rattle.world_laws.specs.WriterCore.Commands.{command_length, fits, is_too_much, intake_after, admitted}
+use Rattle.world_laws.specs.WriterCore.Phases.{remedy_after, remedy_in, remedy_at_ack, is_success, ack_verdict, bad_place, without}
+use Rattle.world_laws.specs.WriterCore.Requests.{stage_of, min_length, max_length, latest_stamp, request_for}
+use Rattle.world_laws.specs.WriterCore.Sound.{Sound}
+use Rattle.world_laws.specs.WriterCore.Transitions.{Step, given_as, given, taken_as, take_first, free_step_as, free_step, failed_command, failed_first, failed_step_as, dial_step_as, open_step, accepted_step, completed_step, is_flushing, empty_due, due_in, due_now, form_step, reached_length, reach_step_as, due_step, stream_step_as, step_in, own_step, dropped, fail_for, fail_named, fail_at, ended_as, ended, phase_acked, acked_oldest, acked_as, acked_in, acked, setup_answered_in, setup_answered, dialled_in, dialled, refused, stamped, reopened, stamp_given, committed_as, commit_given, complete_given, granted_in, granted, asks}
+use Rattle.world_laws.specs.World.Clients.{is_empty}
 use Rattle.world_laws.proofs.ByteFrame.{Each, each-nil, each-one, each-tail, each-append}
 use Rattle.world_laws.proofs.FactTables.{if-each}
 use Rattle.world_texts.proofs.Spelling.{PacketFits, NodesFit, WriteFits}

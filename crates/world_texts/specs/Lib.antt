@@ -1,1 +1,5 @@
 pub mod Texts
+pub mod PacketStream
+pub mod World
+pub mod WorldLaws
+pub mod WorldNets

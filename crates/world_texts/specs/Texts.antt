@@ -4,12 +4,12 @@ use Rattle.op_headers.specs.declared.ops.Op.TheVariants as op
 use Rattle.op_headers.specs.declared.ops.ReadOp.{ReadOp}
 use Rattle.op_headers.specs.Requests.{OpFits, IsEncodable}
 use Rattle.frame_feed.specs.Kinds.{requests, packets, acks, responses, read_statuses, answers}
-use Rattle.world.specs.declared.events.Event.{Event}
-use Rattle.world.specs.declared.events.Event.TheVariants as event
-use Rattle.world.specs.declared.events.OwnStep.TheVariants as own
-use Rattle.world.specs.Parts.{Message, request, packet, ack, response, read_status, recovery_answer}
-use Rattle.world.specs.Worlds.{World, start}
-use Rattle.world.specs.Events.{run}
+use Rattle.world_laws.specs.World.Event.{Event}
+use Rattle.world_laws.specs.World.Event.TheVariants as event
+use Rattle.world_laws.specs.World.OwnStep.TheVariants as own
+use Rattle.world_laws.specs.World.Parts.{Message, request, packet, ack, response, read_status, recovery_answer}
+use Rattle.world_laws.specs.World.Worlds.{World, start}
+use Rattle.world_laws.specs.World.Events.{run}
 use Rattle.world_nets.specs.Rows.{text_of}
 
 -- The bytes as which the message is written spell it.

@@ -10,3 +10,5 @@ ghost use Rattle.world_texts.specs.Texts.{AllWritten};
 pub fn messages_are_written()
     ensures { AllWritten }
 {}
+
+pub use world_nets::starts_are_nets;

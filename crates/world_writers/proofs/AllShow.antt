@@ -36,7 +36,7 @@ use Rattle.world_acks.proofs.Ends.{lower-ready-leaf}
 use Rattle.world_acks.proofs.Clients.{Leads}
 use Rattle.world_acks.proofs.Granting.{OfficeLeads, fresh-given, office-event-leads}
 use Rattle.world_laws.proofs.FactTables.{if-each}
-use Rattle.world_recoveries.proofs.AllRecovering.{happens-fits, start-fits}
+use Rattle.world_acks.proofs.WorldRecoveries.AllRecovering.{happens-fits, start-fits}
 use Rattle.world_acks.proofs.AllAcked.{like-onward, down-known, up-known, leads-of, when-two, lt-true, served-known, served-life, next-tells, taken-tells, heard-tells, lower-taken, upper-taken, own-leads, Follows, down-follows, up-follows, outcome-follows, happens-told, no_ends, start-requests, start-acked, restart-onward}
 use Rattle.std.proofs.lemmas.Option.{none-some}
 use Rattle.world.specs.Parts.{Answered}

@@ -12,8 +12,8 @@ use Rattle.world_laws.specs.Carrying.{new_stamp}
 use Rattle.world_laws.specs.Stamping.{Givens, none_given, given_in, Recorded}
 use Rattle.world_writers.specs.Taking.{Joins}
 use Rattle.world_laws.proofs.PlacedLaws.{all-placed}
-use Rattle.world_recoveries.proofs.AllRecovering.{all-recovering}
-use Rattle.world_recoveries.proofs.AllNaming.{all-naming, all-none-stale}
+use Rattle.world_acks.proofs.WorldRecoveries.AllRecovering.{all-recovering}
+use Rattle.world_acks.proofs.WorldRecoveries.AllNaming.{all-naming, all-none-stale}
 use Rattle.world_acks.specs.Acking.{UpdatesLeave}
 use Rattle.world_writers.specs.Leaving.{JoinedSince, RequestsCover, LaterSessionsKeep}
 use Rattle.world_writers.specs.Staying.{LatestStay}

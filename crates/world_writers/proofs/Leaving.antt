@@ -10,8 +10,8 @@ use Rattle.world.specs.Worlds.{World}
 use Rattle.world.specs.Safe.{Has}
 use Rattle.world_laws.specs.Stamping.{Givens}
 use Rattle.world_laws.specs.Placing.{Placed}
-use Rattle.world_recoveries.specs.Recovering.{ReplicaTold, Informs, InfoFits, UpdateFits, WasSent, ToldOpen, Recovering}
-use Rattle.world_recoveries.specs.Naming.{NoneStale}
+use Rattle.world_acks.specs.WorldRecoveries.Recovering.{ReplicaTold, Informs, InfoFits, UpdateFits, WasSent, ToldOpen, Recovering}
+use Rattle.world_acks.specs.WorldRecoveries.Naming.{NoneStale}
 use Rattle.world_acks.specs.Acking.{EarlierLeave, TellsBytes}
 use Rattle.world_writers.specs.Leaving.{JoinedSince, ToldSince, LaterSessionsKeep, UpdatesKeep}
 

@@ -22,3 +22,6 @@ pub mod Staying
 pub mod Stepping
 pub mod Taking
 pub mod Trailing
+pub mod WorldAcks
+pub mod WorldFinals
+pub mod WorldRecoveries

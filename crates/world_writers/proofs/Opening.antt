@@ -17,11 +17,11 @@ use Rattle.world.specs.Safe.{Has}
 use Rattle.world_laws.specs.Stamping.{Givens, HeldOf, Recorded, heard}
 use Rattle.world_laws.specs.Carrying.{new_stamp}
 use Rattle.world_laws.specs.Joining.{joined_as}
-use Rattle.world_recoveries.specs.Recovering.{ReplicaTold, Informs, Updates, WasSent}
+use Rattle.world_acks.specs.WorldRecoveries.Recovering.{ReplicaTold, Informs, Updates, WasSent}
 use Rattle.world_acks.specs.Acking.{EarlierLeave, JoinSeat, least_of, promised}
 use Rattle.world_finals.specs.Finishing.{Ids, Completes, ClosedLength, by_recovery, by_writer, SessionBegins, first_session, begins_behind, least_asked, Finals}
 use Rattle.world_writers.specs.Leaving.{LaterSessionsKeep}
-use Rattle.world_recoveries.specs.Naming.{IsBefore, NamesPast, Naming}
+use Rattle.world_acks.specs.WorldRecoveries.Naming.{IsBefore, NamesPast, Naming}
 use Rattle.world_acks.specs.Passing.{GotPast, by_setup, by_update, by_recovery, Passes, PassesSince}
 use Rattle.world_writers.proofs.Seating.{Seating, later-session, open-promised}
 

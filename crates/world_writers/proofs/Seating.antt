@@ -14,12 +14,12 @@ use Rattle.world.specs.Safe.{Has}
 use Rattle.world_laws.specs.Stamping.{Givens, Recorded}
 use Rattle.world_laws.specs.Carrying.{new_stamp}
 use Rattle.world_laws.specs.Placing.{Placed}
-use Rattle.world_recoveries.specs.Recovering.{ReplicaTold, Informs, InfoFits, Recovering}
+use Rattle.world_acks.specs.WorldRecoveries.Recovering.{ReplicaTold, Informs, InfoFits, Recovering}
 use Rattle.world_acks.specs.Acking.{EarlierLeave, ToldBytes, Seat, Seated, promised, JoinSeat, Ends, Acked, Asked}
 use Rattle.world_writers.specs.Piping.{IsPipeline}
 use Rattle.world_writers.specs.Settling.{AnswerSits}
 use Rattle.world_writers.specs.Taking.{chain, Joins}
-use Rattle.world_recoveries.specs.Naming.{NoneStale}
+use Rattle.world_acks.specs.WorldRecoveries.Naming.{NoneStale}
 use Rattle.world_writers.specs.Leaving.{JoinedSince, ToldSince, RequestsCover, LaterSessionsKeep}
 
 told-less : (h : Past) (b stamp n life m k : ℕ) → m ≤ k → ToldBytes h b stamp n life k → ToldBytes h b stamp n life m

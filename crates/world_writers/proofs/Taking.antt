@@ -28,7 +28,7 @@ use Rattle.member_core.specs.declared.turns.Turn.{Turn}
 use Rattle.member_core.specs.Members.{set_up, down_turn, up_turn, hears}
 use Rattle.member_core.specs.Requests.{request_from, mirror_request, request_event}
 use Rattle.member_core.specs.Steps.{Step, step, faulted_step, request_at, booked_request, refused_request, faulted_request, refused_by, oldest_at, ready_turn_at}
-use Rattle.read_core.specs.Servings.{ServingState, read_at, read_event, next_call, piece_at}
+use Rattle.world.specs.ReadCore.Servings.{ServingState, read_at, read_event, next_call, piece_at}
 use Rattle.recovery_core.specs.declared.members.RecoveryReply.{RecoveryReply}
 use Rattle.recovery_core.specs.Members.{recovery_event}
 use Rattle.world.specs.Parts.{Message, request, packet, ack, response, read_status, recovery_answer, by_member, FullMember, Lower, idle, writes, serves, recovers, ended_below, Break, Joined}

@@ -10,7 +10,7 @@ use Rattle.world.specs.Safe.{Has}
 use Rattle.world_laws.specs.Stamping.{Givens}
 use Rattle.world_laws.specs.Carrying.{new_stamp}
 use Rattle.world_laws.specs.Joining.{joined_as}
-use Rattle.world_recoveries.specs.Recovering.{ReplicaTold, Informs}
+use Rattle.world_acks.specs.WorldRecoveries.Recovering.{ReplicaTold, Informs}
 use Rattle.world_acks.specs.Acking.{UpdatesLeave, EarlierLeave, ToldBytes, Asked, promised}
 
 -- In this life a node accepted the setup of this stamp, which is that of an answer or a later one of its session.

@@ -5,3 +5,5 @@ pub mod Settling
 pub mod Showing
 pub mod Staying
 pub mod Taking
+pub mod WorldAcks
+pub mod WorldFinals

@@ -1,5 +1,5 @@
-use Rattle.world.specs.Worlds.{start}
-use Rattle.world.specs.Events.{run}
+use Rattle.world_laws.specs.World.Worlds.{start}
+use Rattle.world_laws.specs.World.Events.{run}
 use Rattle.world_orders.proofs.AllOrdered.{all-ordered}
 use Rattle.world_orders.proofs.Takes.{takes-in-order}
 use Rattle.world_orders.proofs.messages_are_taken_in_order.Goals as goal

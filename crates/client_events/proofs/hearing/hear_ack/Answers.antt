@@ -1,6 +1,6 @@
 -- The writer took what stood next on its connection, and what followed.
 use Rattle.std.proofs.Common.{Bool, subst}
-use Rattle.pipe_member.specs.declared.stages.Looked.{Looked}
+use Rattle.member_events.specs.PipeMember.Looked.{Looked}
 use Rattle.client_events.specs.Hearing.{Hears}
 use Rattle.client_events.specs.Steps.{IsSettled}
 use Rattle.client_events.proofs.HearLaws.{hear_lost, hear_shows}

@@ -4,17 +4,17 @@ use Rattle.std.proofs.Math.Seq.{take-append_seam}
 use Rattle.std.proofs.lemmas.Result.{err_from_is_err_and}
 use Rattle.std.specs.String.{string_bytes}
 use Rattle.std.specs.Global.{Global}
-use Rattle.node_opening.proofs.ListLemmas.{if_err}
+use Rattle.whole_play.proofs.NodeOpening.ListLemmas.{if_err}
 use Rattle.script_lang.specs.declared.instructions.ScriptLine.{ScriptLine}
 use Rattle.whole_play.specs.declared.playing.Played.{Played}
 use Rattle.dn_run.specs.declared.exits.Exit.{Exit}
-use Rattle.play_scripts.specs.Fitting.{ScriptFits}
-use Rattle.play_scripts.specs.Heads.{head_of}
-use Rattle.play_scripts.specs.Unplayed.{LinesAreTold}
+use Rattle.whole_play.specs.PlayScripts.Fitting.{ScriptFits}
+use Rattle.whole_play.specs.PlayScripts.Heads.{head_of}
+use Rattle.whole_play.specs.PlayScripts.Unplayed.{LinesAreTold}
 use Rattle.whole_play.specs.Playing.{IsPlayed, LeavesShelves}
 use Rattle.dn_run.specs.Reading.{HasRead, IsReadExit, Accepts, Refuses}
 use Rattle.dn_run.specs.Runs.{usage_of, UsageIn, IsBadIn, KeepsShelves, HasPlayCause}
-use Rattle.play_model.specs.States.{world_of}
+use Rattle.whole_play.specs.PlayModel.States.{world_of}
 use Rattle.dn_run.proofs.AnswerLaws.{completes}
 use Rattle.dn_run.proofs.RunLaws.{bad_text, keeps_played, mode_usage, mode_cause, none_broken, fault_usage, refuses_any}
 use Rattle.dn_run.proofs.running.play.Goals as goal

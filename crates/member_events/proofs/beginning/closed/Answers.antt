@@ -4,7 +4,7 @@ use Rattle.hd_base.specs.declared.ends.Conn.{Conn}
 use Rattle.hd_base.specs.declared.links.LinkIn as link_in
 use Rattle.hd_base.specs.declared.links.LinkOut as link_out
 use Rattle.hd_base.specs.declared.roads.Roads as roads
-use Rattle.pipe_turns.specs.Acting.{ShutsEnd}
+use Rattle.pipe_member.specs.PipeTurns.Acting.{ShutsEnd}
 use Rattle.member_events.specs.declared.faults.MemberFault.{MemberFault}
 use Rattle.member_events.specs.Beginning.{IsBrought, IsClosed}
 use Rattle.member_events.proofs.beginning.closed.Goals as goal

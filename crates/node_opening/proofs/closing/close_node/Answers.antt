@@ -1,6 +1,6 @@
 -- The books at the places are given back.
 use Rattle.std.proofs.Common.{List, length, subst}
-use Rattle.replica_files.specs.declared.book_state.BookState.{BookState}
+use Rattle.play_nodes.specs.ReplicaFiles.BookState.{BookState}
 use Rattle.node_opening.specs.Closing.{NodeCloses}
 use Rattle.node_opening.proofs.CloseLemmas.{lent_front, taken_fewer, taken_within}
 use Rattle.node_opening.proofs.closing.close_node.Goals as goal

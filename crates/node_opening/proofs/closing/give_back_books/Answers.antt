@@ -1,7 +1,7 @@
 -- The last of the books that are left is given back.
 use Rattle.std.proofs.Common.{◌≡◌, ◌<◌, ℕ, Some, List, get_or, slice_get, take, length, sym, subst, ◌∙◌, arith}
 use Rattle.hd_base.specs.declared.numbers.BlockId.{BlockId}
-use Rattle.replica_files.specs.declared.book_state.BookState.{BookState}
+use Rattle.play_nodes.specs.ReplicaFiles.BookState.{BookState}
 use Rattle.node_opening.specs.Closing.{NodeCloses}
 use Rattle.node_opening.proofs.ListLemmas.{none_left, element_or}
 use Rattle.node_opening.proofs.CloseLemmas.{gives, close_none, close_more, lent_last, left_within, left_last, left_less}

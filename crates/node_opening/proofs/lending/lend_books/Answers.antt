@@ -1,7 +1,7 @@
 -- One block more is lent, or all are given back.
 use Rattle.std.proofs.Common.{List, [], get_or, sym, subst}
 use Rattle.hd_base.specs.declared.numbers.BlockId.{BlockId}
-use Rattle.replica_files.specs.declared.book_state.BookState.{BookState}
+use Rattle.play_nodes.specs.ReplicaFiles.BookState.{BookState}
 use Rattle.node_opening.specs.Lending.{HasBooks}
 use Rattle.node_opening.proofs.ListLemmas.{element_or}
 use Rattle.node_opening.proofs.LendLemmas.{books_none, books_step, books_end, fail_within, fail_out, fail_back}

@@ -1,6 +1,6 @@
 -- The book stands behind the others, or nothing is left of it.
 use Rattle.std.proofs.Common.{List, [], ◌∷◌, ◌++◌, refl, ap, ◌∙◌}
-use Rattle.replica_files.specs.declared.book_state.BookState.{BookState}
+use Rattle.play_nodes.specs.ReplicaFiles.BookState.{BookState}
 use Rattle.node_opening.proofs.LendLemmas.{unlent_none, next_failed}
 use Rattle.node_opening.proofs.lending.lend_next.Goals as goal
 

@@ -1,7 +1,7 @@
 -- Nodes that were opened can be closed.
 use Rattle.std.proofs.Common.{◌≡◌, true, List, length, take, subst}
 use Rattle.hd_base.specs.declared.numbers.BlockId.{BlockId}
-use Rattle.node_opening.specs.Shelves.{is_among}
+use Rattle.node_starts.specs.NodeOpening.Shelves.{is_among}
 use Rattle.opening_tests.proofs.opening.two_nodes_open_and_close.Goals as goal
 
 pub close_nodes-requires-clause-lent : goal.close_nodes-requires-clause-lent

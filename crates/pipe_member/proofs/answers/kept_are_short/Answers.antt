@@ -9,7 +9,7 @@ use Rattle.replica_core.specs.declared.refusals.PieceRule.{PieceRule}
 use Rattle.replica_core.specs.declared.refusals.PieceRule.TheVariants as rule
 use Rattle.replica_core.specs.declared.refusals.Refusal.{Refusal}
 use Rattle.replica_core.specs.declared.refusals.Refusal.TheVariants as refusal
-use Rattle.request_refusals.specs.Texts.{spaced, spaced_signed, spaced_if_there, kept_text}
+use Rattle.pipe_setup.specs.RequestRefusals.Texts.{spaced, spaced_signed, spaced_if_there, kept_text}
 use Rattle.pipe_member.specs.Answering.{max_values, max_number}
 use Rattle.pipe_member.proofs.AnswerSizes.{two_short, three_short, four_short, digit_short}
 use Rattle.pipe_member.proofs.answers.kept_are_short.Goals as goal

@@ -1,7 +1,7 @@
 -- By the bound on a number's digits.
 use Rattle.std.proofs.Common.{arith}
 use Rattle.std.proofs.lemmas.Fmt.{length-decimal-le}
-use Rattle.request_refusals.specs.Texts.{spaced}
+use Rattle.pipe_setup.specs.RequestRefusals.Texts.{spaced}
 use Rattle.pipe_member.proofs.answers.number_is_short.Goals as goal
 
 pub returns : goal.returns

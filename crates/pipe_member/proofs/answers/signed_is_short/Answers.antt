@@ -2,7 +2,7 @@
 use Rattle.std.proofs.Common.{◌≤◌, ℤ, pos, negsuc, length, SFits, w64, arith}
 use Rattle.std.proofs.lemmas.Fmt.{length_signed_le}
 use Rattle.std.specs.Fmt.{signed_decimal}
-use Rattle.request_refusals.specs.Texts.{spaced_signed}
+use Rattle.pipe_setup.specs.RequestRefusals.Texts.{spaced_signed}
 use Rattle.pipe_member.proofs.answers.signed_is_short.Goals as goal
 
 signed : (z : ℤ) → SFits w64 z → length (signed_decimal z) ≤ 20

@@ -1,8 +1,8 @@
 -- By the numbers that each refusal keeps.
 use Rattle.std.proofs.Common.{◌≡◌, ◌≤◌, ◌⊎◌, inl, inr, length, subst, sym, arith}
-use Rattle.request_refusals.specs.Texts.{spaced, values_text}
-use Rattle.request_refusals.specs.declared.refusals.RequestRefusal.{RequestRefusal}
-use Rattle.request_refusals.specs.declared.refusals.RequestRefusal.TheVariants as request
+use Rattle.pipe_setup.specs.RequestRefusals.Texts.{spaced, values_text}
+use Rattle.pipe_setup.specs.RequestRefusals.RequestRefusal.{RequestRefusal}
+use Rattle.pipe_setup.specs.RequestRefusals.RequestRefusal.TheVariants as request
 use Rattle.pipe_member.specs.Answering.{max_values}
 use Rattle.pipe_member.proofs.AnswerSizes.{two_short}
 use Rattle.pipe_member.proofs.answers.values_are_short.Goals as goal

@@ -1,6 +1,6 @@
 -- Only of a mirror whose answer is awaited the end is booked where nothing is pending.
 use Rattle.std.proofs.Common.{ap, is_some, ◌∙◌}
-use Rattle.member_core.specs.declared.turns.Turn.{Turn}
+use Rattle.pipe_setup.specs.MemberCore.Turn.{Turn}
 use Rattle.pipe_member.proofs.TakeLemmas.{asks}
 use Rattle.pipe_member.proofs.member.is_asked.Goals as goal
 

@@ -1,5 +1,5 @@
 -- Its lower end is asked, and then its upper end.
-use Rattle.member_events.proofs.SetupKnown.{pass_on}
+use Rattle.play_clients.proofs.MemberEvents.SetupKnown.{pass_on}
 use Rattle.play_dues.proofs.ConnLaws.{conn_told}
 use Rattle.play_dues.proofs.conns.dues_of.Goals as goal
 

@@ -1,6 +1,6 @@
 -- The member that dialled says whether it takes, or the client of the writer that did.
 use Rattle.std.proofs.Common.{◌<◌, length, arith}
-use Rattle.play_nodes.proofs.PlaceLaws.{none_so}
+use Rattle.play_reads.proofs.PlayNodes.PlaceLaws.{none_so}
 use Rattle.play_dues.proofs.UpperLaws.{client_within, upper_away, upper_member, upper_writer, upper_nobody}
 use Rattle.play_dues.proofs.conns.upper_takes.Goals as goal
 

@@ -1,5 +1,5 @@
 -- The word is taken by the number of what is due.
-use Rattle.member_events.proofs.SetupKnown.{pass_on}
+use Rattle.play_clients.proofs.MemberEvents.SetupKnown.{pass_on}
 use Rattle.play_dues.proofs.DrawingLaws.{draws_none, draws_some}
 use Rattle.play_dues.proofs.drawing.draw_due.Goals as goal
 

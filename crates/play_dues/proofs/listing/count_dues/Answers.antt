@@ -1,6 +1,6 @@
 -- One connection more.
 use Rattle.std.proofs.Common.{refl, arith}
-use Rattle.member_events.proofs.SetupKnown.{pass_same, pass_on}
+use Rattle.play_clients.proofs.MemberEvents.SetupKnown.{pass_same, pass_on}
 use Rattle.play_dues.proofs.ListingLaws.{count_below, counts_steps, counts_more, counts_all}
 use Rattle.play_dues.proofs.listing.count_dues.Goals as goal
 

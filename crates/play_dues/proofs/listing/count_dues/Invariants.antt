@@ -1,6 +1,6 @@
 -- The count so far, with what is due of the connections that are left, makes that of all.
 use Rattle.std.proofs.Common.{◌<◌, ◌+◌, ◌*◌, ◌^◌, drop}
-use Rattle.member_events.specs.Roads.{RoadsPass}
+use Rattle.play_clients.specs.MemberEvents.Roads.{RoadsPass}
 use Rattle.play_dues.specs.Listing.{CountsFront}
 use Rattle.play_dues.proofs.listing.count_dues.Given as goal
 

@@ -1,6 +1,6 @@
 -- Whoever would do it says whether it is due.
 use Rattle.std.proofs.Common.{refl}
-use Rattle.member_events.proofs.SetupKnown.{pass_same}
+use Rattle.play_clients.proofs.MemberEvents.SetupKnown.{pass_same}
 use Rattle.play_model.specs.declared.dues.Due.TheVariants as due
 use Rattle.play_dues.proofs.ListingLaws.{own_tells, own_alone, reader_tells, reader_alone, primary_tells, primary_alone, never_alone, down_tells, ready_tells, up_tells}
 use Rattle.play_dues.proofs.listing.is_due.Goals as goal

@@ -1,6 +1,6 @@
 -- One connection more.
 use Rattle.std.proofs.Common.{◌<◌, ℕ, length, refl, subst}
-use Rattle.member_events.proofs.SetupKnown.{pass_same, pass_on}
+use Rattle.play_clients.proofs.MemberEvents.SetupKnown.{pass_same, pass_on}
 use Rattle.play_dues.proofs.ListingLaws.{behind_first, behind_steps, behind_more, picks_step, picks_here, picks_none}
 use Rattle.play_dues.specs.Steps.{steps_listed}
 use Rattle.play_dues.proofs.listing.pick_dues.Goals as goal

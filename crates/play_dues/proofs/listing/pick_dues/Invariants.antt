@@ -1,6 +1,6 @@
 -- What is sought is what is sought among the connections that are left.
 use Rattle.std.proofs.Common.{drop}
-use Rattle.member_events.specs.Roads.{RoadsPass}
+use Rattle.play_clients.specs.MemberEvents.Roads.{RoadsPass}
 use Rattle.play_dues.specs.Listing.{StandsBehind}
 use Rattle.play_dues.proofs.listing.pick_dues.Given as goal
 

@@ -1,7 +1,7 @@
 -- One client more.
 use Rattle.std.proofs.Common.{sym, ◌∙◌, arith}
 use Rattle.play_model.specs.declared.dues.Due.TheVariants as due
-use Rattle.play_readers.specs.Clients.{is_new}
+use Rattle.play_reads.specs.PlayReaders.Clients.{is_new}
 use Rattle.play_dues.proofs.CountLaws.{counts_one, counts_none}
 use Rattle.play_dues.proofs.readers.count_readers.Goals as goal
 use Rattle.play_dues.proofs.readers.count_readers.Goals.{then-has_step, else-has_step}

@@ -1,7 +1,7 @@
 -- One client more.
 use Rattle.std.proofs.Common.{sym, ◌∙◌}
 use Rattle.play_model.specs.declared.dues.Due.TheVariants as due
-use Rattle.play_readers.specs.Clients.{is_new}
+use Rattle.play_reads.specs.PlayReaders.Clients.{is_new}
 use Rattle.play_dues.proofs.CountLaws.{picks_later, picks_past}
 use Rattle.play_dues.proofs.readers.pick_reader.Goals as goal
 use Rattle.play_dues.proofs.readers.pick_reader.Goals.{then-has_step+else-rest-eq0, else-has_step}

@@ -1,7 +1,7 @@
 -- Whoever dialled says whether it takes nothing more.
 use Rattle.std.proofs.Common.{◌<◌, length, refl, arith}
 use Rattle.std.specs.Prelude.{not}
-use Rattle.play_nodes.proofs.PlaceLaws.{element_some}
+use Rattle.play_reads.proofs.PlayNodes.PlaceLaws.{element_some}
 use Rattle.play_dues.proofs.SpentLaws.{gave_writer, gave_member, gave_reader, gave_primary}
 use Rattle.play_dues.proofs.spending.has_given_up.Goals as goal
 

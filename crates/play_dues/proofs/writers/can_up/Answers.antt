@@ -1,6 +1,6 @@
 -- A writer takes what stands next on the connection that it has.
 use Rattle.std.proofs.Common.{false}
-use Rattle.client_events.proofs.SetUpPass.{pass_plain}
+use Rattle.play_clients.proofs.ClientEvents.SetUpPass.{pass_plain}
 use Rattle.world.specs.Connections.{is_conn}
 use Rattle.play_dues.specs.Writers.{conn_of}
 use Rattle.play_dues.proofs.WriterLaws.{nothing_so, something_so, stands_so, writer_tells}

@@ -1,7 +1,7 @@
 -- One client more.
 use Rattle.std.proofs.Common.{get_or}
 use Rattle.hd_base.specs.declared.numbers.BlockId.{BlockId}
-use Rattle.node_opening.proofs.ListLemmas.{element_or}
+use Rattle.play.proofs.NodeOpening.ListLemmas.{element_or}
 use Rattle.play_opening.proofs.ClientLemmas.{clients_none, clients_next, clients_end}
 use Rattle.play_opening.proofs.clients.new_clients.Goals as goal
 

@@ -1,7 +1,7 @@
 -- A primary that leads goes on.
 use Rattle.std.proofs.Common.{Ok, Err, subst}
-use Rattle.block_recovery.specs.declared.primary.PrimaryStep.{PrimaryStep}
-use Rattle.block_recovery.specs.declared.primary.PrimaryStep.TheVariants as step
+use Rattle.primary_events.specs.BlockRecovery.PrimaryStep.{PrimaryStep}
+use Rattle.primary_events.specs.BlockRecovery.PrimaryStep.TheVariants as step
 use Rattle.primary_events.specs.Leading.{LeadShows}
 use Rattle.play_primaries.proofs.LedLaws.{led_shows}
 use Rattle.play_primaries.proofs.owning.led.Goals as goal

@@ -1,7 +1,7 @@
 -- At most 16, and distinct.
 use Rattle.std.proofs.Common.{◌≡◌, List, true, subst}
 use Rattle.hd_base.specs.declared.numbers.NodeId.{NodeId}
-use Rattle.world.specs.Clients.{are_members}
+use Rattle.primary_events.specs.World.Clients.{are_members}
 use Rattle.play_primaries.proofs.BegunLaws.{members_so}
 use Rattle.play_primaries.proofs.owning.members_are.Goals as goal
 

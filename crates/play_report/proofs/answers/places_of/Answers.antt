@@ -1,7 +1,7 @@
 -- One place more.
 use Rattle.std.proofs.Common.{◌≡◌, ◌<◌, ◌-◌, ℕ, nat_eq, None, get_or, length, refl, arith}
 use Rattle.std.specs.HashMap.{get}
-use Rattle.node_opening.proofs.ListLemmas.{element_or}
+use Rattle.play_scripts.proofs.NodeOpening.ListLemmas.{element_or}
 use Rattle.play_report.proofs.AnswerLemmas.{placed_none, placed_before}
 use Rattle.play_report.proofs.answers.places_of.Goals as goal
 

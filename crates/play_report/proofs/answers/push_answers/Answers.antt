@@ -1,6 +1,6 @@
 -- One line more.
 use Rattle.std.proofs.Common.{◌++◌, refl, ◌∙◌, arith}
-use Rattle.play_nodes.proofs.PlaceLaws.{element_some}
+use Rattle.play_scripts.proofs.PlayNodes.PlaceLaws.{element_some}
 use Rattle.play_report.specs.Answers.{lines_text, said_in, answer_lines}
 use Rattle.play_report.proofs.AnswerLemmas.{line_appended, next_within, answers_end, drop_at}
 use Rattle.play_report.proofs.answers.push_answers.Goals as goal

@@ -2,7 +2,7 @@
 use Rattle.std.proofs.Common.{ap, ◌++◌, ◌∙◌}
 use Rattle.std.specs.Prelude.{flat_map}
 use Rattle.std.proofs.lemmas.List.{take_all}
-use Rattle.play_nodes.proofs.PlaceLaws.{element_some}
+use Rattle.play_scripts.proofs.PlayNodes.PlaceLaws.{element_some}
 use Rattle.play_report.specs.Answers.{lines_text, said_in, answer_lines, client_lines}
 use Rattle.play_report.proofs.AnswerLemmas.{clients_more}
 use Rattle.play_report.proofs.TextLemmas.{none_printed}

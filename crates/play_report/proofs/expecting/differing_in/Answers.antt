@@ -1,7 +1,7 @@
 -- One line more.
 use Rattle.std.proofs.Common.{sym, ◌+◌, drop, ◌∙◌}
 use Rattle.std.proofs.lemmas.List.{at_drop_all}
-use Rattle.play_nodes.proofs.PlaceLaws.{element_some}
+use Rattle.play_scripts.proofs.PlayNodes.PlaceLaws.{element_some}
 use Rattle.play_report.specs.Expecting.{found_in, differing_in}
 use Rattle.play_report.proofs.AnswerLemmas.{drop_at}
 use Rattle.play_report.proofs.ExpectLemmas.{line_differs, line_agrees}

@@ -1,6 +1,6 @@
 -- One line more.
 use Rattle.std.proofs.lemmas.List.{drop_all}
-use Rattle.play_nodes.proofs.PlaceLaws.{element_some}
+use Rattle.play_scripts.proofs.PlayNodes.PlaceLaws.{element_some}
 use Rattle.play_report.specs.Reads.{client_read}
 use Rattle.play_report.specs.Recoveries.{client_recovery}
 use Rattle.play_report.proofs.AnswerLemmas.{drop_at}

@@ -1,6 +1,6 @@
 -- One node more.
 use Rattle.std.proofs.Common.{◌++◌, slice_get, ap, ◌∙◌}
-use Rattle.play_nodes.specs.Showing.{runs_in}
+use Rattle.play_scripts.specs.PlayNodes.Showing.{runs_in}
 use Rattle.std.specs.Option.{option_copied}
 use Rattle.play_report.specs.Answers.{lines_text}
 use Rattle.play_report.specs.Replicas.{rows_lines}

@@ -2,8 +2,8 @@
 use Rattle.std.proofs.Common.{◌++◌, ◌≤◌, ◌<◌, get_or, length, refl, arith}
 use Rattle.std.specs.Prelude.{min}
 use Rattle.hd_base.specs.declared.numbers.BlockId.{BlockId}
-use Rattle.play_nodes.proofs.PlaceLaws.{element_some}
-use Rattle.node_opening.proofs.ListLemmas.{element_or}
+use Rattle.play_scripts.proofs.PlayNodes.PlaceLaws.{element_some}
+use Rattle.play_scripts.proofs.NodeOpening.ListLemmas.{element_or}
 use Rattle.play_report.specs.Answers.{lines_text}
 use Rattle.play_report.specs.Replicas.{row_lines}
 use Rattle.play_report.proofs.ReplicaLemmas.{row_next, rows_end}

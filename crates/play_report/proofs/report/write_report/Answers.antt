@@ -2,7 +2,7 @@
 use Rattle.std.proofs.Common.{◌≡◌, Err, length, refl, ap, ◌∙◌, arith}
 use Rattle.std.specs.Prelude.{map, flat_map}
 use Rattle.std.proofs.lemmas.Result.{err_from_is_err_and}
-use Rattle.node_opening.proofs.ListLemmas.{if_err}
+use Rattle.play_scripts.proofs.NodeOpening.ListLemmas.{if_err}
 use Rattle.script_lang.specs.Reports.{printed}
 use Rattle.script_lang.specs.declared.report.ReportLine.TheVariants as line
 use Rattle.play_report.specs.declared.faults.ReportFault.TheVariants as fault

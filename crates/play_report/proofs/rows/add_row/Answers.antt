@@ -1,7 +1,7 @@
 -- One row more, or a fault with its cause.
 use Rattle.std.proofs.Common.{List, ◌∷◌, [], ◌++◌, Err, ap, ◌∙◌}
 use Rattle.std.proofs.lemmas.Result.{err_from_is_err_and}
-use Rattle.node_opening.proofs.ListLemmas.{if_err}
+use Rattle.play_scripts.proofs.NodeOpening.ListLemmas.{if_err}
 use Rattle.play_report.specs.declared.faults.ReportFault.TheVariants as fault
 use Rattle.play_report.specs.declared.rows.Row.{Row}
 use Rattle.play_report.specs.Rows.{IsBookFault}

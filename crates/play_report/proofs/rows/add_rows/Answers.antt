@@ -1,7 +1,7 @@
 -- The rows of one node more, or a fault with its cause.
 use Rattle.std.proofs.Common.{◌≡◌, Err, length, ap, ◌∙◌, arith}
 use Rattle.std.proofs.lemmas.Result.{err_from_is_err_and}
-use Rattle.node_opening.proofs.ListLemmas.{if_err}
+use Rattle.play_scripts.proofs.NodeOpening.ListLemmas.{if_err}
 use Rattle.play_report.specs.declared.faults.ReportFault.TheVariants as fault
 use Rattle.play_report.specs.Rows.{IsBooksFault}
 use Rattle.play_report.proofs.RowLemmas.{books_same, rewritten, left_as, fault_as, rows_added}

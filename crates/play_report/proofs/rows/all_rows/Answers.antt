@@ -3,7 +3,7 @@ use Rattle.std.proofs.Common.{◌≡◌, ◌<◌, Err, get_or, length, refl, ap,
 use Rattle.std.specs.Prelude.{slice_set, min}
 use Rattle.std.proofs.lemmas.Result.{err_from_is_err_and}
 use Rattle.hd_base.specs.declared.numbers.NodeId.{NodeId}
-use Rattle.node_opening.proofs.ListLemmas.{if_err, element_or}
+use Rattle.play_scripts.proofs.NodeOpening.ListLemmas.{if_err, element_or}
 use Rattle.play_report.specs.Rows.{LeavesBooks, IsNodesFault}
 use Rattle.play_report.proofs.RowLemmas.{so_far_none, so_far_left, so_far_end, books_same, RowsAt, nodes_next, nodes_end, nodes_failed}
 use Rattle.play_report.proofs.rows.all_rows.Goals as goal

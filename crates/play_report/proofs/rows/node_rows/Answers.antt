@@ -2,7 +2,7 @@
 use Rattle.std.proofs.Common.{◌≡◌, ◌<◌, Err, get_or, length, ap, ◌∙◌, arith}
 use Rattle.std.specs.Prelude.{slice_set}
 use Rattle.std.proofs.lemmas.Result.{err_from_is_err_and}
-use Rattle.node_opening.proofs.ListLemmas.{if_err, element_or}
+use Rattle.play_scripts.proofs.NodeOpening.ListLemmas.{if_err, element_or}
 use Rattle.replica_files.specs.Summing.{LeavesBook}
 use Rattle.play_report.specs.Rows.{IsRow, IsBooksFault}
 use Rattle.play_report.proofs.RowLemmas.{so_far_none, so_far_left, so_far_end, leaves_same, books_next, books_end, books_failed}

@@ -1,7 +1,7 @@
 -- One line more.
 use Rattle.std.proofs.Common.{◌∙◌, ap}
 use Rattle.std.proofs.lemmas.List.{take_all}
-use Rattle.play_model.specs.Lines.{blocks_of}
+use Rattle.play_laws.specs.PlayModel.Lines.{blocks_of}
 use Rattle.play_scripts.specs.Blocks.{numbers}
 use Rattle.play_scripts.proofs.Placed.{one_created, none_created}
 use Rattle.play_scripts.proofs.Distinct.{are_blocks}

@@ -1,6 +1,6 @@
 -- The blocks of the lines so far.
 use Rattle.std.proofs.Common.{◌≡◌, take}
-use Rattle.play_model.specs.Lines.{blocks_of}
+use Rattle.play_laws.specs.PlayModel.Lines.{blocks_of}
 use Rattle.play_scripts.specs.Blocks.{numbers}
 use Rattle.play_scripts.proofs.blocks.blocks_of.Given as goal
 

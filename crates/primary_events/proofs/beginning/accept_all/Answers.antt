@@ -3,7 +3,7 @@ use Rattle.std.proofs.Common.{ℕ, ◌<◌, ◌++◌, ◌∷◌, [], length, Opt
 use Rattle.std.proofs.lemmas.List.Elements.{All-same}
 use Rattle.std.proofs.lemmas.Option.{slice_get-get_or}
 use Rattle.block_recovery.proofs.ActionLaws.{passes_more}
-use Rattle.member_events.proofs.SetupKnown.{pass_on}
+use Rattle.client_events.proofs.MemberEvents.SetupKnown.{pass_on}
 use Rattle.primary_events.specs.Beginning.{AcceptsIf, AcceptFails, LowerIsKnown, TakesLower}
 use Rattle.primary_events.proofs.BeginPassLaws.{lowers_stay}
 use Rattle.primary_events.proofs.beginning.accept_all.Goals as goal

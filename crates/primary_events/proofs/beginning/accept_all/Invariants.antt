@@ -1,7 +1,7 @@
 -- The dials so far were accepted.
 use Rattle.std.proofs.Common.{◌≤◌, [], length, All}
 use Rattle.block_recovery.specs.Actions.{Passes}
-use Rattle.member_events.specs.Roads.{RoadsPass}
+use Rattle.client_events.specs.MemberEvents.Roads.{RoadsPass}
 use Rattle.primary_events.specs.Beginning.{TakesLower, LowerIsKnown}
 use Rattle.primary_events.proofs.beginning.accept_all.Given as goal
 

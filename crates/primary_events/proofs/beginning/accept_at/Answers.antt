@@ -1,6 +1,6 @@
 -- The dial was accepted, or wasn't.
 use Rattle.std.proofs.Common.{inl}
-use Rattle.member_events.proofs.JoinFaults.{some_accepted, none_accepted}
+use Rattle.client_events.proofs.MemberEvents.JoinFaults.{some_accepted, none_accepted}
 use Rattle.client_events.proofs.SetUpPass.{first_known, pass_plain, pass_accepted}
 use Rattle.primary_events.proofs.BeginPassLaws.{unaccepted}
 use Rattle.primary_events.proofs.beginning.accept_at.Goals as goal

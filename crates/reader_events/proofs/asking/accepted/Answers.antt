@@ -1,6 +1,6 @@
 -- The dial was accepted.
 use Rattle.std.proofs.Common.{refl}
-use Rattle.member_events.proofs.JoinFaults.{some_accepted}
+use Rattle.client_events.proofs.MemberEvents.JoinFaults.{some_accepted}
 use Rattle.reader_events.proofs.asking.accepted.Goals as goal
 
 pub returns-in-Ok-Some-clause-accepts : goal.returns-in-Ok-Some-clause-accepts

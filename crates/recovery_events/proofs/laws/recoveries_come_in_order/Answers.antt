@@ -1,5 +1,5 @@
-use Rattle.world.specs.Worlds.{start}
-use Rattle.world.specs.Events.{run}
+use Rattle.world_orders.specs.World.Worlds.{start}
+use Rattle.world_orders.specs.World.Events.{run}
 use Rattle.recovery_events.proofs.OrderLemmas.{take_recoveries}
 use Rattle.recovery_events.proofs.laws.recoveries_come_in_order.Goals as goal
 

@@ -1,5 +1,5 @@
-use Rattle.world.specs.Worlds.{start}
-use Rattle.world.specs.Events.{run}
+use Rattle.world_orders.specs.World.Worlds.{start}
+use Rattle.world_orders.specs.World.Events.{run}
 use Rattle.recovery_events.proofs.OrderLemmas.{one_block}
 use Rattle.recovery_events.proofs.laws.recoveries_name_one_block.Goals as goal
 

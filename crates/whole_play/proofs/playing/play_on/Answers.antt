@@ -3,10 +3,10 @@ use Rattle.std.proofs.Common.{◌≡◌, ◌≤◌, ℕ, List, drop, sym, ap, su
 use Rattle.hd_base.specs.declared.numbers.BlockId.{BlockId}
 use Rattle.hd_base.specs.declared.roads.TheConstants.{MAX_NODES}
 use Rattle.script_lang.specs.declared.instructions.ScriptLine.{ScriptLine}
-use Rattle.node_opening.specs.Closing.{TheyLend, NodesClose}
-use Rattle.node_opening.specs.Laws.{HaveClosed}
-use Rattle.node_opening.specs.Shelves.{AreDistinct}
-use Rattle.node_opening.specs.Standing.{AllLentOut, ShelvesStand}
+use Rattle.play_report.specs.NodeOpening.Closing.{TheyLend, NodesClose}
+use Rattle.play_report.specs.NodeOpening.Laws.{HaveClosed}
+use Rattle.play_report.specs.NodeOpening.Shelves.{AreDistinct}
+use Rattle.play_report.specs.NodeOpening.Standing.{AllLentOut, ShelvesStand}
 use Rattle.whole_play.specs.Opening.{Begins}
 use Rattle.whole_play.specs.Playing.{IsOver, IsClosed, IsThroughFault, HasCause}
 use Rattle.whole_play.proofs.FaultLemmas.{closed_fault}
@@ -14,7 +14,7 @@ use Rattle.whole_play.proofs.ToldLemmas.{ok_with, err_map}
 use Rattle.whole_play.proofs.HoldLemmas.{closed_so}
 use Rattle.whole_play.proofs.LentLemmas.{given_lends}
 use Rattle.whole_play.proofs.ThroughLemmas.{head_blocks}
-use Rattle.play_scripts.specs.Blocks.{numbers}
+use Rattle.play_report.specs.PlayScripts.Blocks.{numbers}
 use Rattle.play_model.specs.Lines.{blocks_of}
 use Rattle.whole_play.proofs.playing.play_on.Goals as goal
 

@@ -1,6 +1,6 @@
 -- The first shelves, one for each node, are those of the play.
 use Rattle.std.proofs.Common.{Option, IfSome, length, take, drop, ◌++◌, sym, subst}
-use Rattle.play_scripts.specs.declared.heads.Head.{Head}
+use Rattle.play_report.specs.PlayScripts.Head.{Head}
 use Rattle.whole_play.specs.Playing.{IsClosed, IsPlayed, LeavesShelves, HasCause, HasUsedCause}
 use Rattle.whole_play.proofs.FrontLemmas.{played_front, cause_front, leaves_front, nodes_within, count_so}
 use Rattle.whole_play.proofs.ToldLemmas.{ok_map, err_map}

@@ -2,9 +2,9 @@
 use Rattle.std.proofs.Common.{List, Ok, Err, sym, subst, ◌∙◌}
 use Rattle.std.proofs.lemmas.Result.{err_from_is_err_and}
 use Rattle.script_lang.specs.declared.instructions.ScriptLine.{ScriptLine}
-use Rattle.play_scripts.specs.Unplayed.{LinesAreTold}
-use Rattle.node_opening.specs.Standing.{AllLentOut}
-use Rattle.node_opening.proofs.ListLemmas.{if_err}
+use Rattle.play_report.specs.PlayScripts.Unplayed.{LinesAreTold}
+use Rattle.play_report.specs.NodeOpening.Standing.{AllLentOut}
+use Rattle.play_report.proofs.NodeOpening.ListLemmas.{if_err}
 use Rattle.whole_play.specs.declared.faults.RunFault.{RunFault}
 use Rattle.whole_play.specs.Playing.{IsToldOf, IsOver, IsReportFault, IsThroughFault}
 use Rattle.whole_play.proofs.FaultLemmas.{lines_fault, told_fault}

@@ -2,11 +2,11 @@
 use Rattle.std.proofs.Common.{Bool, List, ap, subst, sym, ◌∙◌}
 use Rattle.std.proofs.lemmas.Result.{err_from_is_err_and}
 use Rattle.hd_base.specs.declared.numbers.BlockId.{BlockId}
-use Rattle.node_opening.proofs.ListLemmas.{if_err}
-use Rattle.play_scripts.specs.Blocks.{numbers}
-use Rattle.play_clients.specs.declared.clients.Client.{Client}
-use Rattle.play_primaries.specs.declared.clients.PrimaryClient.{PrimaryClient}
-use Rattle.play_readers.specs.declared.clients.ReadClient.{ReadClient}
+use Rattle.play_report.proofs.NodeOpening.ListLemmas.{if_err}
+use Rattle.play_report.specs.PlayScripts.Blocks.{numbers}
+use Rattle.play_report.specs.PlayClients.Client.{Client}
+use Rattle.play_report.specs.PlayPrimaries.PrimaryClient.{PrimaryClient}
+use Rattle.play_report.specs.PlayReaders.ReadClient.{ReadClient}
 use Rattle.play_report.specs.Expecting.{differing}
 use Rattle.play_report.specs.Reports.{NodesAre, ClientsAre, ReadersAre, PrimariesAre}
 use Rattle.whole_play.specs.declared.faults.RunFault.{RunFault}

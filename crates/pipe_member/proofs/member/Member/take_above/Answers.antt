@@ -1,6 +1,6 @@
 -- What stands next is taken where it may be, or no memory was found for its copy.
 use Rattle.std.proofs.Common.{Some, sym, length, ◌≡◌}
-use Rattle.member_core.specs.Members.{down_turn}
+use Rattle.pipe_setup.specs.MemberCore.Members.{down_turn}
 use Rattle.pipe_member.specs.declared.stages.Took.TheVariants as took
 use Rattle.pipe_member.specs.Above.{due_above}
 use Rattle.pipe_member.proofs.TakeLemmas.{down_can, down_listed, down_spelled}

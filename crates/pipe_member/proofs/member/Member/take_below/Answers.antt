@@ -3,7 +3,7 @@ use Rattle.std.proofs.Common.{sym, ap, slice_get, ◌∙◌}
 use Rattle.replica_core.specs.declared.ack_queue.PendingPacket.{PendingPacket}
 use Rattle.replica_core.specs.declared.records.ReplicaRecord.{ReplicaRecord}
 use Rattle.std.proofs.Common.{Option}
-use Rattle.member_core.specs.Members.{up_turn}
+use Rattle.pipe_setup.specs.MemberCore.Members.{up_turn}
 use Rattle.pipe_turns.proofs.TurnLemmas.{up_doable, unspelled}
 use Rattle.pipe_member.specs.declared.stages.Took.TheVariants as took
 use Rattle.pipe_member.proofs.TurnLaws.{unmade, turned}

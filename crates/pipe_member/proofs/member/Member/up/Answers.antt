@@ -1,6 +1,6 @@
 -- The member looked, and takes what it found.
 use Rattle.std.proofs.Common.{◌≡◌, true, refl, sym, ◌∙◌}
-use Rattle.member_core.specs.Members.{hears}
+use Rattle.pipe_setup.specs.MemberCore.Members.{hears}
 use Rattle.pipe_member.proofs.EventLaws.{goes_up, looked_at}
 use Rattle.pipe_member.proofs.member.Member.up.Goals as goal
 

@@ -1,6 +1,6 @@
 -- A lower end that a primary dialled took what stood next, and the event was kept.
 use Rattle.std.proofs.Common.{Err, sym, subst}
-use Rattle.play_nodes.proofs.SizeLaws.{sizes_after}
+use Rattle.node_stops.proofs.PlayNodes.SizeLaws.{sizes_after}
 use Rattle.play.specs.declared.faults.PlayFault.{PlayFault}
 use Rattle.play.specs.Recovering.{AnswerShows}
 use Rattle.play.proofs.RecoverySteps.{recoveries_stand, answer_left, answer_failed}

@@ -1,7 +1,7 @@
 -- A reader asked its node, and the event was kept.
 use Rattle.std.proofs.Common.{Err, sym, subst}
-use Rattle.play_nodes.proofs.PlaceLaws.{element_some}
-use Rattle.play_nodes.proofs.SizeLaws.{sizes_after}
+use Rattle.node_stops.proofs.PlayNodes.PlaceLaws.{element_some}
+use Rattle.node_stops.proofs.PlayNodes.SizeLaws.{sizes_after}
 use Rattle.play.specs.declared.faults.PlayFault.{PlayFault}
 use Rattle.play.specs.Reading.{AskShows}
 use Rattle.play.proofs.ReadSteps.{reads_stand, ask_left, ask_failed}

@@ -1,7 +1,7 @@
 -- A reader asked its node.
 use Rattle.std.proofs.Common.{Ok, sym, ap, ◌∙◌}
-use Rattle.play_nodes.proofs.PlaceLaws.{none_so, element_within}
-use Rattle.play_nodes.proofs.JoinNodes.{passes_at}
+use Rattle.node_stops.proofs.PlayNodes.PlaceLaws.{none_so, element_within}
+use Rattle.node_stops.proofs.PlayNodes.JoinNodes.{passes_at}
 use Rattle.play_dues.specs.Readers.{read_client_place}
 use Rattle.play.proofs.Dispatch.{reads, nobody_reads}
 use Rattle.play.proofs.player.Player.begin_read.Goals as goal

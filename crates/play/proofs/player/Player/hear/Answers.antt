@@ -1,7 +1,7 @@
 -- A writer heard what stood next, and the event was kept.
 use Rattle.std.specs.Vec.{with_item}
 use Rattle.std.proofs.Common.{refl, sym, subst, Err}
-use Rattle.play_nodes.proofs.PlaceLaws.{element_some}
+use Rattle.node_stops.proofs.PlayNodes.PlaceLaws.{element_some}
 use Rattle.play.specs.declared.faults.PlayFault.{PlayFault}
 use Rattle.play.specs.Events.{HeardShows}
 use Rattle.play.proofs.HearSteps.{heard_left, heard_failed, client_known}

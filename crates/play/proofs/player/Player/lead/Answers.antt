@@ -1,7 +1,7 @@
 -- A primary took its own step, and its events were kept.
 use Rattle.std.proofs.Common.{Some, Err, refl, sym, subst, ◌∙◌}
-use Rattle.play_nodes.proofs.PlaceLaws.{element_some}
-use Rattle.play_nodes.proofs.SizeLaws.{sizes_after}
+use Rattle.node_stops.proofs.PlayNodes.PlaceLaws.{element_some}
+use Rattle.node_stops.proofs.PlayNodes.SizeLaws.{sizes_after}
 use Rattle.play.specs.declared.faults.PlayFault.{PlayFault}
 use Rattle.play.specs.Recovering.{LeadShows}
 use Rattle.play.proofs.RecoverySteps.{recoveries_stand, same_recovery, lead_left, lead_failed}

@@ -1,7 +1,7 @@
 -- A primary took its own step.
 use Rattle.std.proofs.Common.{Ok, sym, ap, ◌∙◌}
-use Rattle.play_nodes.proofs.PlaceLaws.{none_so, element_within}
-use Rattle.play_nodes.proofs.JoinNodes.{passes_at}
+use Rattle.node_stops.proofs.PlayNodes.PlaceLaws.{none_so, element_within}
+use Rattle.node_stops.proofs.PlayNodes.JoinNodes.{passes_at}
 use Rattle.play_dues.specs.Primaries.{primary_client_place}
 use Rattle.play.proofs.Dispatch.{leads_on, nobody_leads}
 use Rattle.play.proofs.player.Player.lead_on.Goals as goal

@@ -3,7 +3,7 @@ use Rattle.std.proofs.Common.{sym, subst, Err}
 use Rattle.play.specs.declared.faults.PlayFault.{PlayFault}
 use Rattle.play.specs.Events.{MirrorShows}
 use Rattle.play.proofs.NodeSteps.{mirror_left, mirror_failed}
-use Rattle.play_nodes.proofs.SizeLaws.{sizes_after}
+use Rattle.node_stops.proofs.PlayNodes.SizeLaws.{sizes_after}
 use Rattle.play.proofs.player.Player.mirror_up.Goals as goal
 
 pub returns-in-Ok-clause-shows : goal.returns-in-Ok-clause-shows

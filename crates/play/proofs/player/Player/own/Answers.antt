@@ -1,7 +1,7 @@
 -- A writer took its own step, and what it left was kept.
 use Rattle.std.specs.Vec.{with_item}
 use Rattle.std.proofs.Common.{refl, sym, subst, ◌∙◌, Err}
-use Rattle.play_nodes.proofs.PlaceLaws.{element_some}
+use Rattle.node_stops.proofs.PlayNodes.PlaceLaws.{element_some}
 use Rattle.play.specs.declared.faults.PlayFault.{PlayFault}
 use Rattle.play.specs.Owning.{OwnShows}
 use Rattle.play.proofs.HearSteps.{client_known}

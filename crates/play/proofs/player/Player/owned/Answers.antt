@@ -1,7 +1,7 @@
 -- What an own step left was kept.
 use Rattle.std.proofs.Common.{sym, ◌∙◌}
 use Rattle.play.proofs.OwnSteps.{owned_so}
-use Rattle.play_nodes.proofs.SizeLaws.{sizes_after}
+use Rattle.node_stops.proofs.PlayNodes.SizeLaws.{sizes_after}
 use Rattle.play.proofs.player.Player.owned.Goals as goal
 
 pub returns-clause-owned : goal.returns-clause-owned

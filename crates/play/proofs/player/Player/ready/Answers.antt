@@ -3,7 +3,7 @@ use Rattle.std.proofs.Common.{sym, subst, Err}
 use Rattle.play.specs.declared.faults.PlayFault.{PlayFault}
 use Rattle.play.specs.Events.{ReadyShows}
 use Rattle.play.proofs.NodeSteps.{ready_left, ready_failed}
-use Rattle.play_nodes.proofs.SizeLaws.{sizes_after}
+use Rattle.node_stops.proofs.PlayNodes.SizeLaws.{sizes_after}
 use Rattle.play.proofs.player.Player.ready.Goals as goal
 
 pub returns-in-Ok-clause-shows : goal.returns-in-Ok-clause-shows

@@ -1,6 +1,6 @@
 -- A lower end that a reader dialled took what stood next, and the event was kept.
 use Rattle.std.proofs.Common.{Err, sym, subst}
-use Rattle.play_nodes.proofs.SizeLaws.{sizes_after}
+use Rattle.node_stops.proofs.PlayNodes.SizeLaws.{sizes_after}
 use Rattle.play.specs.declared.faults.PlayFault.{PlayFault}
 use Rattle.play.specs.Reading.{TakeShows}
 use Rattle.play.proofs.ReadSteps.{reads_stand, take_left, take_failed}

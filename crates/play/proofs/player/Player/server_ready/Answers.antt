@@ -1,6 +1,6 @@
 -- It sent a packet, and the event was kept.
 use Rattle.std.proofs.Common.{Err, sym, subst}
-use Rattle.play_nodes.proofs.SizeLaws.{sizes_after}
+use Rattle.node_stops.proofs.PlayNodes.SizeLaws.{sizes_after}
 use Rattle.play.specs.declared.faults.PlayFault.{PlayFault}
 use Rattle.play.specs.Reading.{SendShows}
 use Rattle.play.proofs.ReadSteps.{reads_stand, send_left, send_failed}

@@ -1,6 +1,6 @@
 -- A writer took its own step.
 use Rattle.std.proofs.Common.{Ok, refl, sym, ap, ◌∙◌}
-use Rattle.play_nodes.proofs.PlaceLaws.{none_so}
+use Rattle.node_stops.proofs.PlayNodes.PlaceLaws.{none_so}
 use Rattle.play_dues.specs.Places.{client_place}
 use Rattle.play_dues.proofs.UpperLaws.{client_within}
 use Rattle.play.proofs.Dispatch.{steps, nobody_steps}

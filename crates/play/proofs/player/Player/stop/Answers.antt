@@ -1,7 +1,7 @@
 -- A node of a play stopped, and the event was kept.
-use Rattle.member_events.proofs.SetupKnown.{pass_on}
-use Rattle.play_reads.proofs.StopLaws.{servers_known}
-use Rattle.play_recoveries.proofs.StopLaws.{all_known}
+use Rattle.node_stops.proofs.MemberEvents.SetupKnown.{pass_on}
+use Rattle.play_dues.proofs.PlayReads.StopLaws.{servers_known}
+use Rattle.play_dues.proofs.PlayRecoveries.StopLaws.{all_known}
 use Rattle.play.proofs.ReadSteps.{reads_stand}
 use Rattle.play.proofs.RecoverySteps.{recoveries_stand}
 use Rattle.play.proofs.StopPlays.{stop_shows}

@@ -1,7 +1,7 @@
 -- What a line asks can be asked.
 use Rattle.std.proofs.Common.{◌<◌, ◌^◌, subst, arith}
 use Rattle.hd_base.specs.declared.numbers.Stamp.{Stamp}
-use Rattle.play_readers.proofs.AskLaws.{request_fits}
+use Rattle.play_opening.proofs.PlayReaders.AskLaws.{request_fits}
 use Rattle.play_lines.proofs.playing.Playing.ask.Goals as goal
 
 pub returns-in-Ok-clause-fits : goal.returns-in-Ok-clause-fits

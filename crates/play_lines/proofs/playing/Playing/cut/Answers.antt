@@ -1,6 +1,6 @@
 -- A connection of a block's pipeline is cut.
 use Rattle.std.proofs.Common.{refl}
-use Rattle.play_nodes.proofs.PlaceLaws.{none_so}
+use Rattle.play_scripts.proofs.PlayNodes.PlaceLaws.{none_so}
 use Rattle.play_lines.proofs.CutLines.{nothing_cut, within, was_cut}
 use Rattle.play_lines.proofs.playing.Playing.cut.Goals as goal
 

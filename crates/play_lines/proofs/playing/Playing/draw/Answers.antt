@@ -1,8 +1,8 @@
 -- What was drawn happened.
 use Rattle.std.proofs.Common.{rules, Some, refl, subst}
-use Rattle.play_nodes.proofs.PlaceLaws.{none_so}
-use Rattle.play_dues.specs.Drawing.{DrawsDue}
-use Rattle.play_dues.specs.Live.{IsRefreshed}
+use Rattle.play_scripts.proofs.PlayNodes.PlaceLaws.{none_so}
+use Rattle.play_opening.specs.PlayDues.Drawing.{DrawsDue}
+use Rattle.play_opening.specs.PlayDues.Live.{IsRefreshed}
 use Rattle.play_lines.proofs.Drawn.{nothing_drawn, drew, drew_failed, stands_there}
 use Rattle.play_lines.proofs.playing.Playing.draw.Goals as goal
 

@@ -1,6 +1,6 @@
 -- The pipeline of a block that has a client.
 use Rattle.std.proofs.Common.{rules, ◌≡◌, ◌∙◌, subst}
-use Rattle.play_dues.specs.Places.{client_place}
+use Rattle.play_opening.specs.PlayDues.Places.{client_place}
 use Rattle.play_lines.proofs.Stepped.{for_client}
 use Rattle.play_lines.proofs.playing.Playing.due_for.Goals as goal
 

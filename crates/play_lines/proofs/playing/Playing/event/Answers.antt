@@ -1,8 +1,8 @@
 -- A line that gives no command is played.
 use Rattle.std.proofs.Common.{refl}
-use Rattle.member_events.proofs.SetupKnown.{pass_same}
+use Rattle.play_scripts.proofs.MemberEvents.SetupKnown.{pass_same}
 use Rattle.play_lines.proofs.Lined.{rule_shows, run_shows, settle_shows, step_shows, cut_shows, stop_shows, idle_shows, is_other}
-use Rattle.play_nodes.proofs.SizeLaws.{sizes_same}
+use Rattle.play_scripts.proofs.PlayNodes.SizeLaws.{sizes_same}
 use Rattle.play_lines.proofs.playing.Playing.event.Goals as goal
 
 pub returns-in-Sums-clause-shows : goal.returns-in-Sums-clause-shows

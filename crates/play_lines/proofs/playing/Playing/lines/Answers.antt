@@ -1,7 +1,7 @@
 -- The lines are played, one after the other.
 use Rattle.std.proofs.Common.{◌∙◌, List, rules, refl, drop, ◌+◌, length, subst}
 use Rattle.play_scripts.specs.Unplayed.{LinesAreTold}
-use Rattle.node_opening.specs.Standing.{ShelvesStay}
+use Rattle.play_scripts.specs.NodeOpening.Standing.{ShelvesStay}
 use Rattle.script_lang.specs.declared.instructions.ScriptLine.{ScriptLine}
 use Rattle.play_lines.proofs.Runs.{passes}
 use Rattle.play_lines.proofs.LineRuns.{drop_here, none_played, reached_ready, one_next, failed_at, played_at}

@@ -1,8 +1,8 @@
 -- So many lines were played.
 use Rattle.std.proofs.Common.{◌≡◌, drop, length}
-use Rattle.member_events.specs.Roads.{RoadsPass}
+use Rattle.play_scripts.specs.MemberEvents.Roads.{RoadsPass}
 use Rattle.play_scripts.specs.Unplayed.{LinesAreTold}
-use Rattle.node_opening.specs.Standing.{ShelvesStay}
+use Rattle.play_scripts.specs.NodeOpening.Standing.{ShelvesStay}
 use Rattle.play_lines.specs.Lines.{IsReady}
 use Rattle.play_lines.specs.Shelves.{ShelvesServe}
 use Rattle.play_lines.proofs.LineRuns.{Continues}

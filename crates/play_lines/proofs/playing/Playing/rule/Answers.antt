@@ -1,8 +1,8 @@
 -- The client of the block has the rule.
 use Rattle.std.proofs.Common.{◌<◌, ℕ, refl, sym, ap, ◌∙◌, subst}
-use Rattle.play_nodes.proofs.PlaceLaws.{none_so, element_some}
-use Rattle.play_dues.specs.Places.{client_place}
-use Rattle.play_dues.proofs.UpperLaws.{client_within}
+use Rattle.play_scripts.proofs.PlayNodes.PlaceLaws.{none_so, element_some}
+use Rattle.play_opening.specs.PlayDues.Places.{client_place}
+use Rattle.play_opening.proofs.PlayDues.UpperLaws.{client_within}
 use Rattle.play_lines.proofs.Ruled.{rule_so, rule_none}
 use Rattle.play_lines.proofs.playing.Playing.rule.Goals as goal
 

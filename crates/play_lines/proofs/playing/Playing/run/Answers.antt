@@ -2,7 +2,7 @@
 use Rattle.std.proofs.Common.{rules, Bool, Ok, subst}
 use Rattle.play_lines.specs.Drawing.{DrawShows}
 use Rattle.play_lines.proofs.Runs.{passes, still_playing, left_more, run_ended, run_whole, run_failed}
-use Rattle.play_nodes.proofs.SizeLaws.{sizes_after}
+use Rattle.play_scripts.proofs.PlayNodes.SizeLaws.{sizes_after}
 use Rattle.play_lines.proofs.playing.Playing.run.Goals as goal
 
 pub draw-requires-after_bounds : goal.draw-requires-after_bounds

@@ -1,9 +1,9 @@
 -- So many draws were made.
-use Rattle.member_events.specs.Roads.{RoadsPass}
+use Rattle.play_scripts.specs.MemberEvents.Roads.{RoadsPass}
 use Rattle.play_model.specs.Draws.{draws}
 use Rattle.play_model.specs.States.{PlayState}
 use Rattle.play_lines.specs.Drawing.{blocks_in, IsDrawn}
-use Rattle.play_nodes.specs.Places.{KeepsSizes}
+use Rattle.play_scripts.specs.PlayNodes.Places.{KeepsSizes}
 use Rattle.play_lines.specs.Showing.{PlayIs}
 use Rattle.play_lines.proofs.playing.Playing.run.Given as goal
 

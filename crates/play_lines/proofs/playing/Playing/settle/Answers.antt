@@ -3,7 +3,7 @@ use Rattle.std.proofs.Common.{rules, Bool, Ok, refl, subst, arith}
 use Rattle.play_lines.specs.Drawing.{DrawShows}
 use Rattle.play_lines.proofs.Runs.{passes, still_playing, after_more, settle_ended, settle_failed}
 use Rattle.play_lines.proofs.Lowers.{smaller}
-use Rattle.play_nodes.proofs.SizeLaws.{sizes_same, sizes_after}
+use Rattle.play_scripts.proofs.PlayNodes.SizeLaws.{sizes_same, sizes_after}
 use Rattle.play_lines.proofs.playing.Playing.settle.Goals as goal
 
 pub draw-requires-after_bounds : goal.draw-requires-after_bounds

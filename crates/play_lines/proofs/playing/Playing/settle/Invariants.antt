@@ -1,7 +1,7 @@
 -- Draws were made, each of which leaves less to be done.
-use Rattle.member_events.specs.Roads.{RoadsPass}
+use Rattle.play_scripts.specs.MemberEvents.Roads.{RoadsPass}
 use Rattle.play_model.specs.States.{PlayState}
-use Rattle.play_nodes.specs.Places.{KeepsSizes}
+use Rattle.play_scripts.specs.PlayNodes.Places.{KeepsSizes}
 use Rattle.play_lines.specs.Showing.{PlayIs}
 use Rattle.play_lines.proofs.Lowers.{weight_in}
 use Rattle.play_lines.proofs.Runs.{AfterDraws}

@@ -1,6 +1,6 @@
 -- A node starts again.
 use Rattle.std.proofs.Common.{get_or, slice_set, refl, sym, ◌∙◌}
-use Rattle.node_opening.proofs.ListLemmas.{element_or}
+use Rattle.play_scripts.proofs.NodeOpening.ListLemmas.{element_or}
 use Rattle.play_lines.proofs.ShelfStarts.{lends_node, has_books, node_tells, started_on}
 use Rattle.play_lines.proofs.StartLines.{runs_already, was_started, fault_here}
 use Rattle.play_lines.proofs.playing.Playing.start.Goals as goal

@@ -1,6 +1,6 @@
 -- One event of a pipeline happens, where it is due.
 use Rattle.std.proofs.Common.{refl}
-use Rattle.play_nodes.proofs.PlaceLaws.{none_so}
+use Rattle.play_scripts.proofs.PlayNodes.PlaceLaws.{none_so}
 use Rattle.play_lines.proofs.Stepped.{nothing_there, told_as, alone_as, not_due, stands_here, happened}
 use Rattle.play_lines.proofs.playing.Playing.step.Goals as goal
 

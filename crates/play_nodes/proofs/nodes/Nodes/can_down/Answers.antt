@@ -1,7 +1,7 @@
 -- An end that has taken nothing yet takes what stands next, and a member says whether it does.
 use Rattle.std.proofs.Common.{◌<◌, ℕ, ◌∙◌, sym, ap, subst}
 use Rattle.std.specs.Prelude.{length}
-use Rattle.pipe_member.specs.Enabled.{takes_at}
+use Rattle.member_events.specs.PipeMember.Enabled.{takes_at}
 use Rattle.play_nodes.specs.Places.{IsSeat}
 use Rattle.play_nodes.proofs.PlaceLaws.{none_so}
 use Rattle.play_nodes.proofs.LiftLaws.{seat_within, lower_here, member_here, node_here, place_here, book_here}

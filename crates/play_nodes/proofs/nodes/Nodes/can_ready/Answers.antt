@@ -1,6 +1,6 @@
 -- The member says whether it acts.
 use Rattle.std.proofs.Common.{◌<◌, ℕ, ◌∙◌, sym, ap, subst}
-use Rattle.pipe_member.specs.Enabled.{acts_at}
+use Rattle.member_events.specs.PipeMember.Enabled.{acts_at}
 use Rattle.play_nodes.specs.Places.{IsSeat}
 use Rattle.play_nodes.proofs.PlaceLaws.{none_so}
 use Rattle.play_nodes.proofs.LiftLaws.{seat_within, lower_here, member_here, node_here, place_here, book_here}

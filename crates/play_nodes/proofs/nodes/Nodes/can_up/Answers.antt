@@ -3,7 +3,7 @@ use Rattle.std.proofs.Common.{◌<◌, ℕ, ◌∙◌, sym, subst}
 use Rattle.play_nodes.specs.Places.{IsSeat}
 use Rattle.play_nodes.proofs.PlaceLaws.{none_so}
 use Rattle.play_nodes.proofs.LiftLaws.{seat_within, lower_here, member_here}
-use Rattle.pipe_member.specs.Enabled.{hears_at}
+use Rattle.member_events.specs.PipeMember.Enabled.{hears_at}
 use Rattle.play_nodes.specs.Dues.{stands}
 use Rattle.play_nodes.proofs.DueNodes.{heard_so, unheard_so, up_alone, up_none, up_tells}
 use Rattle.play_nodes.proofs.nodes.Nodes.can_up.Goals as goal

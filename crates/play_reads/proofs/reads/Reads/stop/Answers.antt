@@ -1,6 +1,6 @@
 -- One server more is looked at.
 use Rattle.std.proofs.Common.{arith}
-use Rattle.member_events.proofs.SetupKnown.{pass_on}
+use Rattle.play_nodes.proofs.MemberEvents.SetupKnown.{pass_on}
 use Rattle.play_reads.proofs.EndLaws.{ending_none, ending_next}
 use Rattle.play_reads.proofs.StopLaws.{stop_shows}
 use Rattle.play_reads.proofs.reads.Reads.stop.Goals as goal

@@ -1,5 +1,5 @@
 -- The primaries and the lower ends of a node are brought back.
-use Rattle.member_events.proofs.SetupKnown.{pass_on}
+use Rattle.play_nodes.proofs.MemberEvents.SetupKnown.{pass_on}
 use Rattle.play_recoveries.proofs.EndLaws.{ok_then}
 use Rattle.play_recoveries.proofs.StopLaws.{stop_shows}
 use Rattle.play_recoveries.proofs.recoveries.Recoveries.stop.Goals as goal

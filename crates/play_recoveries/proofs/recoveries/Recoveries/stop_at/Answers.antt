@@ -1,6 +1,6 @@
 -- The lower end is taken from its place, and brought back.
 use Rattle.std.proofs.Common.{refl, sym, subst, rules}
-use Rattle.client_events.proofs.PassLaws.{pass_by}
+use Rattle.play_primaries.proofs.ClientEvents.PassLaws.{pass_by}
 use Rattle.play_nodes.proofs.PlaceLaws.{element_some}
 use Rattle.play_servers.specs.Answering.{AnswerIsKnown}
 use Rattle.play_recoveries.proofs.EndLaws.{ok_then, end_here}

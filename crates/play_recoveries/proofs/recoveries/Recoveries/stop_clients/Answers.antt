@@ -1,6 +1,6 @@
 -- One client more is looked at.
 use Rattle.std.proofs.Common.{arith}
-use Rattle.member_events.proofs.SetupKnown.{pass_on}
+use Rattle.play_nodes.proofs.MemberEvents.SetupKnown.{pass_on}
 use Rattle.play_recoveries.proofs.HaltLaws.{halting_none, halting_next, clients_stop}
 use Rattle.play_recoveries.proofs.recoveries.Recoveries.stop_clients.Goals as goal
 

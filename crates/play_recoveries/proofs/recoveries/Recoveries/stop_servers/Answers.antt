@@ -1,6 +1,6 @@
 -- One server more is looked at.
 use Rattle.std.proofs.Common.{arith}
-use Rattle.member_events.proofs.SetupKnown.{pass_on}
+use Rattle.play_nodes.proofs.MemberEvents.SetupKnown.{pass_on}
 use Rattle.play_recoveries.proofs.EndLaws.{ending_none, ending_next, servers_end}
 use Rattle.play_recoveries.proofs.recoveries.Recoveries.stop_servers.Goals as goal
 

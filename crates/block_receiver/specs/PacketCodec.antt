@@ -1,0 +1,3 @@
+-- What `packet_codec` has, passed on to the crates above.
+pub use Rattle.packet_codec.specs.Packets
+pub use Rattle.packet_codec.specs.declared.packets.Packet

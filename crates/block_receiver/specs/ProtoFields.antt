@@ -1,0 +1,2 @@
+-- What `proto_fields` has, passed on to the crates above.
+pub use Rattle.proto_fields.specs.Frames

@@ -1,0 +1,2 @@
+-- What `replica_model` has, passed on to the crates above.
+pub use Rattle.member_core.specs.ReplicaModel.ReplicaEvent

@@ -1,0 +1,2 @@
+-- What `node_opening` has, passed on to the crates above.
+pub use Rattle.whole_play.specs.NodeOpening.Listening

@@ -1,0 +1,8 @@
+-- What `play_nodes` has, passed on to the crates above.
+pub use Rattle.play_nodes.specs.Places
+pub use Rattle.play_nodes.specs.Showing
+pub use Rattle.play_nodes.specs.declared.connections.Connection
+pub use Rattle.play_nodes.specs.declared.connections.Lower
+pub use Rattle.play_nodes.specs.declared.connections.Upper
+pub use Rattle.play_nodes.specs.declared.nodes.NodeBooks
+pub use Rattle.play_nodes.specs.declared.nodes.Nodes

@@ -1,0 +1,7 @@
+-- What `node_opening` has, passed on to the crates above.
+pub use Rattle.node_opening.specs.Closing
+pub use Rattle.node_opening.specs.Lending
+pub use Rattle.node_opening.specs.Listening
+pub use Rattle.node_opening.specs.Opening
+pub use Rattle.node_opening.specs.Shelves
+pub use Rattle.node_opening.specs.declared.faults.OpenFault

@@ -1,0 +1,3 @@
+-- What `replica_files` has, passed on to the crates above.
+pub use Rattle.replica_files.specs.Books
+pub use Rattle.replica_files.specs.declared.book_state.BookState

@@ -1,0 +1,3 @@
+-- What `member_events` has, passed on to the crates above.
+pub use Rattle.play_nodes.specs.MemberEvents.Joining
+pub use Rattle.play_nodes.specs.MemberEvents.Roads

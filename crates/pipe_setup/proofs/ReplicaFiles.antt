@@ -1,0 +1,3 @@
+-- What `replica_files` has, passed on to the crates above.
+pub use Rattle.replica_files.proofs.BookLemmas
+pub use Rattle.replica_files.proofs.StepLemmas

@@ -1,0 +1,3 @@
+-- What `packet_responder` has, passed on to the crates above.
+pub use Rattle.packet_responder.specs.Sendings
+pub use Rattle.packet_responder.specs.declared.sendings.Sending

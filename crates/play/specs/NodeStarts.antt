@@ -1,0 +1,3 @@
+-- What `node_starts` has, passed on to the crates above.
+pub use Rattle.node_starts.specs.Books
+pub use Rattle.node_starts.specs.Lives

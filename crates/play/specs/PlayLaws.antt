@@ -1,0 +1,3 @@
+-- What `play_laws` has, passed on to the crates above.
+pub use Rattle.play_laws.specs.Commands
+pub use Rattle.play_laws.specs.Intakes

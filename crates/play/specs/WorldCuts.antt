@@ -1,0 +1,2 @@
+-- What `world_cuts` has, passed on to the crates above.
+pub use Rattle.node_stops.specs.WorldCuts.Cutting

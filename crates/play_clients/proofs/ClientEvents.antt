@@ -1,0 +1,2 @@
+-- What `client_events` has, passed on to the crates above.
+pub use Rattle.client_events.proofs.SetUpPass

@@ -1,0 +1,2 @@
+-- What `member_events` has, passed on to the crates above.
+pub use Rattle.client_events.proofs.MemberEvents.SetupKnown

@@ -1,0 +1,3 @@
+-- What `play_model` has, passed on to the crates above.
+pub use Rattle.play_model.specs.Dues
+pub use Rattle.play_model.specs.declared.recoveries.Recovery

@@ -1,0 +1,2 @@
+-- What `play_reads` has, passed on to the crates above.
+pub use Rattle.play_reads.proofs.StopLaws

@@ -1,0 +1,3 @@
+-- What `world_settling` has, passed on to the crates above.
+pub use Rattle.world_settling.specs.Measure
+pub use Rattle.world_settling.specs.Traffic

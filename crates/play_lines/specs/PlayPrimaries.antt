@@ -1,0 +1,2 @@
+-- What `play_primaries` has, passed on to the crates above.
+pub use Rattle.play_opening.specs.PlayPrimaries.PrimaryClient

@@ -1,0 +1,4 @@
+-- What `play_scripts` has, passed on to the crates above.
+pub use Rattle.play_scripts.specs.Failures
+pub use Rattle.play_scripts.specs.Fitting
+pub use Rattle.play_scripts.specs.Reads

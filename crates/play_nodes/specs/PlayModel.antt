@@ -1,0 +1,7 @@
+-- What `play_model` has, passed on to the crates above.
+pub use Rattle.play_model.specs.Asks
+pub use Rattle.play_model.specs.Dues
+pub use Rattle.play_model.specs.Recoveries
+pub use Rattle.play_model.specs.declared.asks.ReadAsk
+pub use Rattle.play_model.specs.declared.dues.Due
+pub use Rattle.play_model.specs.declared.recoveries.Recovery

@@ -1,0 +1,4 @@
+-- What `world_nets` has, passed on to the crates above.
+pub use Rattle.member_events.specs.WorldNets.Nets
+pub use Rattle.member_events.specs.WorldNets.Rows
+pub use Rattle.member_events.specs.WorldNets.Starts

@@ -1,0 +1,2 @@
+-- What `node_starts` has, passed on to the crates above.
+pub use Rattle.play.proofs.NodeStarts.StartLemmas

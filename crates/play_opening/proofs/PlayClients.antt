@@ -1,0 +1,2 @@
+-- What `play_clients` has, passed on to the crates above.
+pub use Rattle.play.proofs.PlayClients.OtherLaws

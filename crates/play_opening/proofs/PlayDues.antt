@@ -1,0 +1,2 @@
+-- What `play_dues` has, passed on to the crates above.
+pub use Rattle.play.proofs.PlayDues.UpperLaws

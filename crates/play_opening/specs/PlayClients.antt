@@ -1,0 +1,4 @@
+-- What `play_clients` has, passed on to the crates above.
+pub use Rattle.play.specs.PlayClients.Blocks
+pub use Rattle.play.specs.PlayClients.Client
+pub use Rattle.play.specs.PlayClients.Clients

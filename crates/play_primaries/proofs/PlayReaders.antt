@@ -1,0 +1,2 @@
+-- What `play_readers` has, passed on to the crates above.
+pub use Rattle.play_readers.proofs.AskLaws

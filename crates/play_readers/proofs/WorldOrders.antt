@@ -1,0 +1,2 @@
+-- What `world_orders` has, passed on to the crates above.
+pub use Rattle.reader_events.proofs.WorldOrders.Lists

@@ -1,0 +1,5 @@
+-- What `play_model` has, passed on to the crates above.
+pub use Rattle.play_model.specs.Dues
+pub use Rattle.play_model.specs.Recoveries
+pub use Rattle.play_model.specs.declared.dues.Due
+pub use Rattle.play_model.specs.declared.recoveries.Recovery

@@ -1,0 +1,2 @@
+-- What `world_standings` has, passed on to the crates above.
+pub use Rattle.world_standings.specs.Standings

@@ -1,0 +1,6 @@
+-- What `play_nodes` has, passed on to the crates above.
+pub use Rattle.play_nodes.proofs.DueNodes
+pub use Rattle.play_nodes.proofs.JoinNodes
+pub use Rattle.play_nodes.proofs.Numbers
+pub use Rattle.play_nodes.proofs.PlaceLaws
+pub use Rattle.play_nodes.proofs.Tables

@@ -1,0 +1,3 @@
+-- What `reader_events` has, passed on to the crates above.
+pub use Rattle.play_primaries.specs.ReaderEvents.Asking
+pub use Rattle.play_primaries.specs.ReaderEvents.Orders

@@ -1,0 +1,3 @@
+-- What `world_nets` has, passed on to the crates above.
+pub use Rattle.play_servers.specs.WorldNets.Nets
+pub use Rattle.play_servers.specs.WorldNets.Rows

@@ -1,0 +1,2 @@
+-- What `play_laws` has, passed on to the crates above.
+pub use Rattle.play_scripts.specs.PlayLaws.Nodes

@@ -1,0 +1,4 @@
+-- What `world_nets` has, passed on to the crates above.
+pub use Rattle.play_primaries.specs.WorldNets.Nets
+pub use Rattle.play_primaries.specs.WorldNets.Rows
+pub use Rattle.play_primaries.specs.WorldNets.Starts

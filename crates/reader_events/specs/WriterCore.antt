@@ -1,0 +1,4 @@
+-- What `writer_core` has, passed on to the crates above.
+pub use Rattle.client_events.specs.WriterCore.Action
+pub use Rattle.client_events.specs.WriterCore.Requests
+pub use Rattle.client_events.specs.WriterCore.Transitions

@@ -1,0 +1,3 @@
+-- What `replica_files` has, passed on to the crates above.
+pub use Rattle.block_recovery.specs.ReplicaFiles.BookState
+pub use Rattle.block_recovery.specs.ReplicaFiles.Books

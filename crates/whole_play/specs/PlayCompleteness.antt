@@ -1,0 +1,2 @@
+-- What `play_completeness` has, passed on to the crates above.
+pub use Rattle.completing_lines.specs.PlayCompleteness.Complete

@@ -1,0 +1,7 @@
+-- What `ack_codec` has, passed on to the crates above.
+pub use Rattle.member_core.specs.AckCodec.Ack
+pub use Rattle.member_core.specs.AckCodec.AckTexts
+pub use Rattle.member_core.specs.AckCodec.Acks
+pub use Rattle.member_core.specs.AckCodec.Response
+pub use Rattle.member_core.specs.AckCodec.ResponseTexts
+pub use Rattle.member_core.specs.AckCodec.Responses

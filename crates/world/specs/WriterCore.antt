@@ -1,0 +1,21 @@
+-- What `writer_core` has, passed on to the crates above.
+pub use Rattle.writer_core.specs.Commands
+pub use Rattle.writer_core.specs.Laws
+pub use Rattle.writer_core.specs.Phases
+pub use Rattle.writer_core.specs.Requests
+pub use Rattle.writer_core.specs.Sound
+pub use Rattle.writer_core.specs.Transitions
+pub use Rattle.writer_core.specs.declared.actions.Action
+pub use Rattle.writer_core.specs.declared.actions.ClientAnswer
+pub use Rattle.writer_core.specs.declared.commands.Command
+pub use Rattle.writer_core.specs.declared.commands.CommandFault
+pub use Rattle.writer_core.specs.declared.intake.Intake
+pub use Rattle.writer_core.specs.declared.phases.DuePacket
+pub use Rattle.writer_core.specs.declared.phases.Failure
+pub use Rattle.writer_core.specs.declared.phases.Phase
+pub use Rattle.writer_core.specs.declared.phases.Remedy
+pub use Rattle.writer_core.specs.declared.phases.Setup
+pub use Rattle.writer_core.specs.declared.phases.SyncPacket
+pub use Rattle.writer_core.specs.declared.phases.Verdict
+pub use Rattle.writer_core.specs.declared.phases.Waiting
+pub use Rattle.writer_core.specs.declared.records.WriterRecord

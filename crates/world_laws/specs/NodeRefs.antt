@@ -1,0 +1,2 @@
+-- What `node_refs` has, passed on to the crates above.
+pub use Rattle.world.specs.NodeRefs.NodeRefs

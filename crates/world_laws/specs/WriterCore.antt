@@ -1,0 +1,21 @@
+-- What `writer_core` has, passed on to the crates above.
+pub use Rattle.world.specs.WriterCore.Action
+pub use Rattle.world.specs.WriterCore.ClientAnswer
+pub use Rattle.world.specs.WriterCore.Command
+pub use Rattle.world.specs.WriterCore.CommandFault
+pub use Rattle.world.specs.WriterCore.Commands
+pub use Rattle.world.specs.WriterCore.DuePacket
+pub use Rattle.world.specs.WriterCore.Failure
+pub use Rattle.world.specs.WriterCore.Intake
+pub use Rattle.world.specs.WriterCore.Laws
+pub use Rattle.world.specs.WriterCore.Phase
+pub use Rattle.world.specs.WriterCore.Phases
+pub use Rattle.world.specs.WriterCore.Remedy
+pub use Rattle.world.specs.WriterCore.Requests
+pub use Rattle.world.specs.WriterCore.Setup
+pub use Rattle.world.specs.WriterCore.Sound
+pub use Rattle.world.specs.WriterCore.SyncPacket
+pub use Rattle.world.specs.WriterCore.Transitions
+pub use Rattle.world.specs.WriterCore.Verdict
+pub use Rattle.world.specs.WriterCore.Waiting
+pub use Rattle.world.specs.WriterCore.WriterRecord

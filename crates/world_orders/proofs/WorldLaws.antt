@@ -1,0 +1,3 @@
+-- What `world_laws` has, passed on to the crates above.
+pub use Rattle.world_laws.proofs.FactTables
+pub use Rattle.world_laws.proofs.PlacedLaws

@@ -1,0 +1,5 @@
+-- What `world_nets` has, passed on to the crates above.
+pub use Rattle.world_nets.proofs.ChangeLemmas
+pub use Rattle.world_nets.proofs.EndLemmas
+pub use Rattle.world_nets.proofs.RowLemmas
+pub use Rattle.world_nets.proofs.StepLemmas

@@ -1,0 +1,21 @@
+-- What `world_laws` has, passed on to the crates above.
+pub use Rattle.world_laws.proofs.AllCarried
+pub use Rattle.world_laws.proofs.AllRecorded
+pub use Rattle.world_laws.proofs.AllSetUp
+pub use Rattle.world_laws.proofs.ByteAsking
+pub use Rattle.world_laws.proofs.ByteFrame
+pub use Rattle.world_laws.proofs.ByteLeaves
+pub use Rattle.world_laws.proofs.ByteRows
+pub use Rattle.world_laws.proofs.ByteTurns
+pub use Rattle.world_laws.proofs.ByteWriting
+pub use Rattle.world_laws.proofs.FactTables
+pub use Rattle.world_laws.proofs.FoundLaws
+pub use Rattle.world_laws.proofs.Fronts
+pub use Rattle.world_laws.proofs.GrowthLaws
+pub use Rattle.world_laws.proofs.OfficeSteps
+pub use Rattle.world_laws.proofs.ReplicaUntouching
+pub use Rattle.world_laws.proofs.Sessions
+pub use Rattle.world_laws.proofs.SetupRising
+pub use Rattle.world_laws.proofs.StampGivens
+pub use Rattle.world_laws.proofs.StampGranting
+pub use Rattle.world_laws.proofs.StampWalking

@@ -1,0 +1,5 @@
+-- What `world_acks` has, passed on to the crates above.
+pub use Rattle.world_acks.proofs.AllAcked
+pub use Rattle.world_acks.proofs.ClosedMoves
+pub use Rattle.world_acks.proofs.Frame
+pub use Rattle.world_acks.proofs.Turning

@@ -1,0 +1,2 @@
+-- What `world_finals` has, passed on to the crates above.
+pub use Rattle.world_finals.specs.Finishing
