@@ -14,3 +14,4 @@ pub mod PendingLaws
 pub mod CountLaws
 pub mod HalfLaws
 pub mod DialLaws
+pub mod RefusingLaws

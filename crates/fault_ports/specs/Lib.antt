@@ -4,7 +4,8 @@ pub mod MadeCalls
 pub mod Kept
 pub mod Stops
 pub mod Outcomes
-pub mod ArmedWrites
+pub mod RefusedWrites
+pub mod RefusalLaws
 pub mod PieceCounts
 pub mod Halves
 pub mod Cuts

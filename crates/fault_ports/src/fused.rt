@@ -1,34 +1,37 @@
-//! Files of which a coming write on a data file fails, and shelves of them.
+//! Files that can be made to refuse the writes on data files.
 
-ghost use Rattle.std.specs.Prelude.{◌≡◌, ◌+◌, [], ◌∷◌, ◌↔◌, true, None, IsTrue, IsErr, OnOk, OnErr, IsErrOf};
-ghost use Rattle.hd_base.specs.Calls.{MakesCalls, MakesPartOf, IsUnchanged};
+ghost use Rattle.std.specs.Prelude.{◌≡◌, ◌+◌, [], ◌∷◌, None, OnOk, OnErr, IsErrOf};
 ghost use Rattle.file_calls.specs.Plans.{HasRoomFor};
 ghost use Rattle.file_calls.specs.CallCauses.{HasPlaceFor, CauseOf, RoomAfter};
 ghost use Rattle.file_calls.specs.FileCalls.{meant};
-ghost use Rattle.fault_ports.specs.ArmedWrites.{is_data_write, left_after};
+ghost use Rattle.fault_ports.specs.RefusedWrites.{told_log, has_refused, MakesThrough, MakesPartThrough, IsSameThrough};
+ghost use Rattle.fault_ports.specs.RefusalLaws.{log-makes_files, log-tells_refusals, refusals-logged};
 
+use crate::refusals::Refusal;
 use crate::stop_at::find_file;
 use file_calls::{FileCall, make_call};
-use hd_base::{Armed, FileError, FileName, Files};
-use std::alloc::Global;
+use hd_base::{FileError, FileName, Files};
+use refusing_files::Refusing;
+use std::alloc::{AllocError, Global};
 
-/// Files of a drawer that can be armed: the number that is left runs down at each write on a data
-/// file, and the write at which it ends fails, keeps nothing and is counted.
+/// Files of a drawer that can be made to refuse the writes on data files. While they do, a sync passes until a write was
+/// refused, and every other call that isn't a mere read fails, keeps nothing and is counted. Their log is that of this
+/// time.
 #[derive(Debug, Drop)]
 pub struct FusedDrawer<F> {
     inner: F,
-    left: u64,
+    refusal: Option<Refusal>,
     faults: u64,
 }
 
 impl<F: Files> FusedDrawer<F> {
-    /// Files that aren't armed.
+    /// Files that take writes.
     pub(crate) fn new(inner: F) -> FusedDrawer<F>
-        ensures { result ≡ record { inner = inner; left = 0; faults = 0 } }
+        ensures { result ≡ record { inner = inner; refusal = None; faults = 0 } }
     {
         FusedDrawer {
             inner,
-            left: 0,
+            refusal: None,
             faults: 0,
         }
     }
@@ -40,74 +43,39 @@ impl<F: Files> FusedDrawer<F> {
     {
         let FusedDrawer {
             inner,
-            left: _,
+            refusal: _,
             faults,
         } = self;
         (inner, faults)
     }
 
-    /// Runs the number down at a call, and answers whether the call is to fail.
-    fn run_down(&mut self, call: &FileCall) -> bool
-        ensures left { self.new ≡ record self.old { left = left_after (meant call.now) self.old.left } }
-        ensures fails { IsTrue result ↔ ((is_data_write (meant call.now) ≡ true) × (self.old.left ≡ 1)) }
-    {
-        if !counts(call) {
-            return false;
-        }
-        let last = self.left == 1;
-        self.left = self.left.saturating_sub(1);
-        last
-    }
-
-    /// Makes a call that isn't a mere read, unless it is the write that is to fail.
+    /// Makes a call that isn't a mere read, unless files refuse writes and it isn't a sync that passes.
     fn change(&mut self, call: &FileCall) -> Result<(), FileError>
         requires room { HasRoomFor (F.room self.old.inner) (meant call.now) }
         requires place { HasPlaceFor (F.files self.old.inner) (meant call.now) }
-        ensures ok { OnOk result (MakesCalls
-            (F.files self.old.inner) (F.files self.new.inner)
-            (F.log self.old.inner) (F.log self.new.inner) (meant call.now ∷ [])) }
-        ensures in_part { OnErr result (MakesPartOf
-            (F.files self.old.inner) (F.files self.new.inner)
-            (F.log self.old.inner) (F.log self.new.inner) (meant call.now)) }
-        ensures absent { IsErrOf result FileError.Absent → IsUnchanged
-            (F.files self.old.inner) (F.files self.new.inner) (F.log self.old.inner) (F.log self.new.inner) }
+        ensures ok { OnOk result (MakesThrough F.files self.old self.new (meant call.now ∷ [])) }
+        ensures in_part { OnErr result (MakesPartThrough F.files self.old self.new (meant call.now)) }
+        ensures absent { IsErrOf result FileError.Absent → IsSameThrough F.files self.old self.new }
         ensures room { RoomAfter (F.room self.old.inner) (F.room self.new.inner) (meant call.now) result }
         ensures cause { CauseOf (F.files self.old.inner) (meant call.now)
             (F.faults self.old.inner + self.old.faults) (F.faults self.new.inner + self.new.faults) result }
-        ensures left { self.new.left ≡ left_after (meant call.now) self.old.left }
-        ensures fails { is_data_write (meant call.now) ≡ true → self.old.left ≡ 1 → IsErr result }
-        ensures keeps_nothing { is_data_write (meant call.now) ≡ true → self.old.left ≡ 1 → IsUnchanged
-            (F.files self.old.inner) (F.files self.new.inner) (F.log self.old.inner) (F.log self.new.inner) }
     {
-        if self.run_down(call) {
-            self.faults = self.faults.saturating_add(1);
-            return match find_file(&mut self.inner, call) {
-                Ok(()) => Err(FileError::Failed),
-                Err(error) => Err(error),
-            };
+        match &mut self.refusal {
+            None => make_call(&mut self.inner, call),
+            Some(refusal) => {
+                find_file(&mut self.inner, call)?;
+                refusal.refuse(call);
+                self.faults = self.faults.saturating_add(1);
+                Err(FileError::Failed)
+            }
         }
-        make_call(&mut self.inner, call)
-    }
-}
-
-/// Whether the call is a write on a data file.
-fn counts(call: &FileCall) -> bool
-    ensures { IsTrue result ↔ IsTrue (is_data_write (meant call.now)) }
-{
-    match call {
-        FileCall::Write(name, _, _) => name.is_data(),
-        FileCall::Make(_) => false,
-        FileCall::Cut(_, _) => false,
-        FileCall::Sync(_) => false,
-        FileCall::Rename(_, _) => false,
-        FileCall::Remove(_) => false,
     }
 }
 
 impl<F: Files> Files for FusedDrawer<F> {
     ghost files = { λ d. F.files d.inner };
 
-    ghost log = { λ d. F.log d.inner };
+    ghost log = { λ d. told_log d.refusal (F.files d.inner) };
 
     ghost room = { λ d. F.room d.inner };
 
@@ -149,6 +117,13 @@ impl<F: Files> Files for FusedDrawer<F> {
     }
 
     fn sync(&mut self, name: &FileName) -> Result<(), FileError> {
+        if let Some(refusal) = &mut self.refusal {
+            if refusal.takes_sync() {
+                self.inner.sync(name)?;
+                refusal.add_sync(name);
+                return Ok(());
+            }
+        }
         self.change(&FileCall::Sync(name))
     }
 
@@ -162,17 +137,28 @@ impl<F: Files> Files for FusedDrawer<F> {
 
     ghost covers_files = { λ d. F.covers_files d.inner };
 
-    ghost log_makes_files = { λ d. F.log_makes_files d.inner };
+    ghost log_makes_files = { λ d. log-makes_files d.refusal (F.files d.inner) };
 }
 
-impl<F: Files> Armed for FusedDrawer<F> {
-    ghost writes_left = { λ d. d.left };
+impl<F: Files> Refusing for FusedDrawer<F> {
+    ghost refused = { λ d. has_refused d.refusal };
 
-    fn arm(&mut self, nth: u64) {
-        self.left = nth;
+    fn refuse_writes(&mut self, alloc: Global) -> Result<(), AllocError> {
+        self.refusal = Some(Refusal::new(alloc, self.faults)?);
+        Ok(())
     }
 
-    fn left(&self) -> u64 {
-        self.left
+    fn take_writes(&mut self) -> bool {
+        match self.refusal.take() {
+            Some(refusal) if refusal.has_refused() => {
+                self.faults = refusal.before();
+                true
+            }
+            _ => false,
+        }
     }
+
+    ghost tells_refusals = { λ d. log-tells_refusals d.refusal (F.files d.inner) };
+
+    ghost logs_refusals = { λ d. refusals-logged d.refusal (F.files d.inner) };
 }

@@ -1,4 +1,4 @@
-//! Shelves whose drawers can be armed.
+//! Shelves whose drawers can be made to refuse the writes on data files.
 
 ghost use Rattle.std.specs.Prelude.{◌≡◌, ◌+◌, ℕ, None, IsOk, IfOk};
 
@@ -6,8 +6,7 @@ use crate::fused::FusedDrawer;
 use hd_base::{BlockId, FileError, FileName, Shelf};
 use std::alloc::{AllocError, Global};
 
-/// A shelf of which each drawer can be armed: a coming write on a data file through it then fails,
-/// keeps nothing and is counted.
+/// A shelf of which each drawer can be made to refuse the writes on data files. A drawer that is lent takes writes.
 #[derive(Debug, Drop)]
 pub struct Fused<S> {
     inner: S,
@@ -16,7 +15,7 @@ pub struct Fused<S> {
 }
 
 impl<S: Shelf> Fused<S> {
-    /// The shelf with drawers that aren't armed. Memory is never short here; the shelf would come
+    /// The shelf with drawers that take writes. Memory is never short here; the shelf would come
     /// back with that error.
     pub fn new(inner: S) -> Result<Fused<S>, (AllocError, S)>
         ensures made { IsOk result }

@@ -1,5 +1,5 @@
 //! Files, shelves and roads that fail on purpose: files that lose what wasn't synced, files that
-//! stop at a call, shelves whose writes fail by number, and roads whose connections end.
+//! stop at a call, shelves whose drawers can refuse writes, and roads whose connections end.
 #![tactic(auto)]
 
 mod certain;
@@ -17,6 +17,8 @@ mod made_calls;
 mod offers;
 mod passes;
 mod piece_counts;
+mod refusals;
+mod refused_writes;
 mod stop_at;
 mod stored_files;
 

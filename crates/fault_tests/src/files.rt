@@ -1,9 +1,10 @@
 //! Files at one outcome after another, at a stop, and under a list of calls.
 
-use fault_ports::{Fused, Keep, LossyFiles, StopAt};
+use fault_ports::{Fused, FusedDrawer, Keep, LossyFiles, StopAt};
 use file_calls::{FileCall, perform};
-use hd_base::{Armed, BlockId, FileError, FileName, Files, Shelf};
-use mem_ports::MemShelf;
+use hd_base::{BlockId, FileError, FileName, Files, Shelf};
+use mem_ports::{MemDrawer, MemShelf};
+use refusing_files::Refusing;
 use std::alloc::Global;
 use std::test::Fail;
 
@@ -134,29 +135,44 @@ fn calls_are_made_in_their_order(rt: HostRuntime) -> Result<(), Fail> {
     Ok(())
 }
 
-/// A data file written four times, of which the third fails, with a sync and another file between.
-fn armed(alloc: Global, data: &FileName, sums: &FileName) -> Result<([u8; 8], usize), Fail> {
+/// A drawer whose data file holds one byte.
+fn begun(alloc: Global, data: &FileName) -> Result<FusedDrawer<MemDrawer>, Fail> {
     let shelf = MemShelf::new(alloc, &[])?;
     let mut shelf = Fused::new(shelf).ok().ok_or("memory")?;
     let mut drawer = shelf.lend(alloc, BlockId(1))?;
     store(alloc, &mut drawer, data, b"1")?;
-    drawer.arm(2);
-    store(alloc, &mut drawer, sums, b"12")?;
-    drawer.sync(data)?;
-    append(alloc, &mut drawer, data, b"2")?;
-    let left = drawer.left();
-    let failed = append(alloc, &mut drawer, data, b"3");
-    append(alloc, &mut drawer, data, b"4")?;
-    if left != 1 || failed != Err(FileError::Failed) || drawer.left() != 0 {
-        return Err("another write failed")?;
-    }
-    Ok(front(&mut drawer, data)?)
+    Ok(drawer)
 }
 
 #[test]
-fn an_armed_write_fails(rt: HostRuntime) -> Result<(), Fail> {
-    let (bytes, count) = armed(rt.alloc(), &name(b"blk_1")?, &name(b"blk_1_1001.meta")?)?;
-    assert_eq!(rt; &bytes[..3], b"124".as_slice());
-    assert_eq!(rt; count, 3);
+fn a_refused_write_keeps_nothing(rt: HostRuntime) -> Result<(), Fail> {
+    let alloc = rt.alloc();
+    let data = name(b"blk_1")?;
+    let mut drawer = begun(alloc, &data)?;
+    drawer.refuse_writes(alloc)?;
+    drawer.sync(&data)?;
+    assert_eq!(rt;
+        append(alloc, &mut drawer, &data, b"2"),
+        Err(FileError::Failed)
+    );
+    assert_eq!(rt; drawer.sync(&data), Err(FileError::Failed));
+    assert_eq!(rt; drawer.length(&data)?, 1);
+    assert!(rt; drawer.take_writes());
+    append(alloc, &mut drawer, &data, b"3")?;
+    let (bytes, count) = front(&mut drawer, &data)?;
+    assert_eq!(rt; &bytes[..2], b"13".as_slice());
+    assert_eq!(rt; count, 2);
+    Ok(())
+}
+
+#[test]
+fn nothing_was_refused_without_a_write(rt: HostRuntime) -> Result<(), Fail> {
+    let alloc = rt.alloc();
+    let data = name(b"blk_1")?;
+    let mut drawer = begun(alloc, &data)?;
+    drawer.refuse_writes(alloc)?;
+    drawer.sync(&data)?;
+    assert!(rt; !drawer.take_writes());
+    assert!(rt; !drawer.take_writes());
     Ok(())
 }
