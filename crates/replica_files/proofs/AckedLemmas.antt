@@ -1,8 +1,6 @@
 -- Bytes that are acked stay.
-use Rattle.std.proofs.Common.{◌≡◌, ℕ, ◌≤◌, ◌+◌, min, Bool, true, false, not, is_none, negsuc, ℤ, List, [], ◌∷◌, ◌++◌, length, take, slice_get, Option, Some, None, IfSome, Result, Ok, Err, refl, sym, ap, subst, ◌∙◌, arith}
-use Rattle.std.specs.List.{AllByRecursion}
+use Rattle.std.proofs.Common.{◌≡◌, ℕ, ◌≤◌, Bool, true, false, not, is_none, negsuc, ℤ, [], slice_get, Option, Some, None, Result, Ok, refl, sym, ap, subst, arith}
 use Rattle.std.specs.Ordering.{int_eq}
-use Rattle.std.proofs.lemmas.List.{length-take-le, take_all}
 use Rattle.hd_base.specs.declared.states.ReplicaState.{ReplicaState}
 use Rattle.hd_base.specs.declared.states.ReplicaState.TheVariants as state
 use Rattle.hd_base.specs.declared.numbers.ConnId.{ConnId}
@@ -18,17 +16,15 @@ use Rattle.replica_core.specs.declared.info.ReplicaInfo.{ReplicaInfo}
 use Rattle.replica_core.specs.declared.extents.PacketExtent.{PacketExtent}
 use Rattle.replica_core.specs.declared.refusals.Refusal.{Refusal}
 use Rattle.replica_core.specs.declared.refusals.Refusal.TheVariants as refusal
-use Rattle.replica_core.specs.declared.streams.Stream.{Stream}
 use Rattle.replica_core.specs.Refusals.{check}
-use Rattle.replica_core.specs.Info.{state_of, is_writable, settled_at, reopen, recover_setup, recover_stream, begin_recovery, readable, given, visible_of, advance_acked, close_stream, extend_written}
+use Rattle.replica_core.specs.Info.{state_of, is_writable, settled_at, reopen, recover_setup, recover_stream, begin_recovery, readable, given, visible_of, advance_acked}
 use Rattle.replica_core.specs.Extents.{stream_after, heartbeat_of, pending_of}
-use Rattle.replica_core.specs.Transitions.{Outcome, done, record_after, present, set_writer, with_writer, new_transition, extend, enqueue, extent_transition, packet_transition, ack_transition, stream_by, oldest_of, acknowledge, is_written_by, end_connection, mark_broken, transition, state_after}
-use Rattle.replica_core.specs.Views.{acked_at, acked_in, written_in}
+use Rattle.replica_core.specs.Transitions.{Outcome, done, record_after, present, set_writer, with_writer, new_transition, extend, enqueue, extent_transition, packet_transition, ack_transition, stream_by, oldest_of, acknowledge, is_written_by, mark_broken, transition, state_after}
+use Rattle.replica_core.specs.Views.{acked_at, acked_in}
 use Rattle.replica_core.specs.Sound.{IsConsistent, Sound}
 use Rattle.replica_core.proofs.StepLemmas.{after_check, after_step, choice}
 use Rattle.replica_core.proofs.InfoLemmas.{present_is, reopen_is, recover_setup_is, recover_stream_is, begin_recovery_is}
-use Rattle.replica_core.proofs.SoundLemmas.{info_in, kept}
-use Rattle.replica_core.proofs.TransitionLemmas.{acked_within}
+use Rattle.replica_core.proofs.SoundLemmas.{info_in}
 
 -- no less is acked than that
 abbrev AcksFrom : ℕ → ReplicaRecord → Type 0

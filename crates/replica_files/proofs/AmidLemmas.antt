@@ -141,6 +141,10 @@ if_some : {P Q : Type 0} (o : Option FileMap) → (P → Q) → IfSome o (λ _. 
 if_some None onward p = tt
 if_some (Some m) onward p = onward p
 
+-- what is held stays with its bytes
+pub still_bytes : (r : FullReplica) (e : Event) → (row r (replica_event.Other e)).known.info ≡ r.known.info → length r.bytes ≡ written_at r.known.info → (row r (replica_event.Other e)).bytes ≡ r.bytes
+still_bytes r e info all = bytes_after r e r.known.info info ∙ whole r.bytes (written_at r.known.info) all
+
 pub still_carries : {F : Type 0} (f : files.Ghosts F) (d : F) (block : BlockId) (prior : Prior) (next : Option ReplicaInfo) (sum buffer : ℕ) (a : IsAmidSettling f d block prior next sum buffer) → prior.info ≡ next
     → CarriesOut f d d block a.r (replica_event.Other a.e) (Ok sum)
 still_carries f d block prior next sum buffer a same =
@@ -148,7 +152,7 @@ still_carries f d block prior next sum buffer a same =
     let e = replica_event.Other a.e in
     let still : r.known.info ≡ (row r e).known.info = sym a.before_is ∙ (same ∙ a.next_is) in
     let none : plan r e ≡ [] = plan_is r e a.takes ∙ (ap (λ o. taken_calls e r.known.info o r.bytes) (sym still) ∙ still_calls a.e r.known.info r.bytes a.held.full.all) in
-    let bytes : (row r e).bytes ≡ r.bytes = bytes_after r a.e r.known.info (sym still) ∙ whole r.bytes (written_at r.known.info) a.held.full.all in
+    let bytes : (row r e).bytes ≡ r.bytes = still_bytes r a.e (sym still) a.held.full.all in
     record {
       made = record {
         strays = [];

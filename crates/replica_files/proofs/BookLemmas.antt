@@ -14,6 +14,7 @@ use Rattle.replica_model.specs.declared.events.ReplicaEvent.{ReplicaEvent}
 use Rattle.replica_model.specs.declared.histories.Entry.{Entry}
 use Rattle.replica_model.specs.Rows.{FullReplica, IsFull, event_at, brought, row, broken}
 use Rattle.replica_model.specs.Histories.{begun, after_entry, replay}
+use Rattle.replica_files.specs.Breaks.{LeavesFiles}
 use Rattle.replica_files.specs.Books.{replica_of, IsHeld, IsBookOf}
 use Rattle.replica_files.specs.Endings.{Notes}
 use Rattle.replica_files.specs.declared.book_state.BookState.{BookState}
@@ -44,16 +45,19 @@ refused_row r e refusal is full =
 
 -- ---- books
 
--- A book whose replica is held by its files.
-pub book_as : {F : Type 0} (f : files.Ghosts F) (s : BookState F) (drawer : F) (block : BlockId) (sum : ℕ) (r : FullReplica)
-    → s.drawer ≡ drawer → s.block ≡ block → s.last_sum ≡ sum → replica_of s ≡ r → s.replica ≡ r.known → IsHeld f drawer block sum r → IsBookOf f s
-book_as f s drawer block sum r at of_block kept is known held =
+-- A book whose replica is held by its files, or left in them.
+pub book_as : {F : Type 0} (f : files.Ghosts F) (s : BookState F) (drawer : F) (block : BlockId) (sum : ℕ) (whole : Bool) (r : FullReplica)
+    → s.drawer ≡ drawer → s.block ≡ block → s.last_sum ≡ sum → s.whole ≡ whole → replica_of s ≡ r → s.replica ≡ r.known → IsHeld f drawer block sum r → LeavesFiles f drawer whole r → IsBookOf f s
+book_as f s drawer block sum whole r at of_block kept stays is known held leaves =
     record {
       known = known ∙ ap (λ x. x.known) (sym is);
       held = subst (λ x. IsHeld f s.drawer s.block s.last_sum x) (sym is)
           (subst (λ x. IsHeld f s.drawer s.block x r) (sym kept)
           (subst (λ x. IsHeld f s.drawer x sum r) (sym of_block)
           (subst (λ x. IsHeld f x block sum r) (sym at) held)));
+      left = subst (λ x. LeavesFiles f s.drawer s.whole x) (sym is)
+          (subst (λ x. LeavesFiles f s.drawer x r) (sym stays)
+          (subst (λ x. LeavesFiles f x whole r) (sym at) leaves));
     }
 
 -- A replica that breaks, with what it held before.

@@ -36,11 +36,14 @@ use Rattle.replica_files.specs.declared.faults.BookFault.TheVariants as fault
 use Rattle.hd_base.specs.Faults.{FaultsIncreased}
 use Rattle.replica_files.specs.Entries.{IsSame, HasEntry}
 use Rattle.replica_files.specs.Events.{IsSettling}
+use Rattle.replica_files.specs.Breaks.{LeavesFiles}
 use Rattle.replica_files.specs.Books.{replica_of, HasLastSum, IsHeld, Takes, AreStrays, event_calls, IsBookOf, MakesEvent, StopsEvent, before_all, amid}
 use Rattle.replica_files.specs.Carried.{CarriesOut, IsAmidSettling}
 use Rattle.replica_files.specs.Steps.{IsToNote, IsAmid, IsPrepared, KeepsBook}
 use Rattle.replica_files.specs.Endings.{Notes, CallEnds, TakenEnds, Finishes, Fails, IsRefusal}
 use Rattle.replica_files.proofs.BookLemmas.{broken_block, book_as}
+use Rattle.replica_files.proofs.LeftLemmas.{left_failed, left_kept, left_row, left_unbroken}
+use Rattle.replica_files.proofs.AmidLemmas.{amid_settled, settled_still, still_bytes}
 use Rattle.replica_files.proofs.ShapeLemmas.{stays_of}
 
 -- ---- the files after an event
@@ -142,22 +145,27 @@ broken_after f old new block sum r held only =
 -- ---- a book that is to get its entry
 
 pub to_note : {F : Type 0} (f : files.Ghosts F) (old : F) (s : BookState F) (e : ReplicaEvent) (before : Option ReplicaInfo) (made : Result ℕ FileError) → s.replica ≡ (row (replica_of s) e).known → before ≡ (replica_of s).known.info
-    → IsHeld f old s.block s.last_sum (replica_of s) → IsWithBytes e → IsBytes (brought (length (replica_of s).bytes) e) → CarriesOut f old s.drawer s.block (replica_of s) e made → IsToNote f s e before made
-to_note f old s e before (Ok sum) known is held with_bytes more carried =
+    → IsHeld f old s.block s.last_sum (replica_of s) → IsWithBytes e → IsBytes (brought (length (replica_of s).bytes) e) → CarriesOut f old s.drawer s.block (replica_of s) e made → (IsErr made → (replica_of s).known.is_broken ≡ false)
+    → LeavesFiles f s.drawer s.whole (row (replica_of s) e) → IsToNote f s e before made
+to_note f old s e before (Ok sum) known is held with_bytes more carried whole still =
     record {
       known = known;
       of_block = ap (λ c. c.block) known ∙ (stays_of (replica_of s).known (event_at (replica_of s) e)).0 ∙ held.of_block;
       before_is = is;
       done = held_after f old s.drawer s.block s.last_sum sum (replica_of s) e held with_bytes more carried;
       failed = λ x. absurd (cc);
+      still = still;
+      left = λ x. absurd (cc);
     }
-to_note f old s e before (Err x) known is held with_bytes more carried =
+to_note f old s e before (Err x) known is held with_bytes more carried whole still =
     record {
       known = known;
       of_block = ap (λ c. c.block) known ∙ (stays_of (replica_of s).known (event_at (replica_of s) e)).0 ∙ held.of_block;
       before_is = is;
       done = tt;
       failed = λ _. broken_after f old s.drawer s.block s.last_sum (replica_of s) held carried.only;
+      still = tt;
+      left = λ _. left_failed f old s.drawer (replica_of s) e held.full (whole refl) held.holds carried.stopped carried.cause.failed;
     }
 
 -- ---- the end
@@ -233,6 +241,27 @@ unfolding amid_settling
 amid_carried f s new e prior answer buffer next made is a carries =
     subst (λ x. CarriesOut f s.drawer new s.block (replica_of s) x made) (sym a.is) (carries (amid_settling f s e prior answer buffer next is a))
 
+pub amid_left : {F : Type 0} (f : files.Ghosts F) (s : BookState F) (new : F) (e : ReplicaEvent) (prior : Prior) (answer : Answer) (buffer : ℕ) (next : Option ReplicaInfo) → next ≡ s.replica.info → IsAmid f s e prior answer buffer
+    → (prior.is_broken ≡ true → new ≡ s.drawer) → LeavesFiles f new s.whole (row (replica_of s) e)
+unfolding amid_settling
+amid_left f s new e prior answer buffer next is a alone =
+    subst (λ x. LeavesFiles f new s.whole (row (replica_of s) x)) (sym a.is) (by r.known.is_broken refl) where
+      r : FullReplica
+      r = replica_of s
+
+      x : IsAmidSettling f s.drawer s.block prior next s.last_sum buffer
+      x = amid_settling f s e prior answer buffer next is a
+
+      same : prior.is_broken ≡ true → (row r (replica_event.Other a.settled)).known.info ≡ r.known.info
+      same broke = sym x.next_is ∙ (sym (settled_still a.settled prior.is_broken prior.info next broke (amid_settled f s.drawer s.block prior next s.last_sum buffer x)) ∙ a.before_is)
+
+      by : (b : Bool) → r.known.is_broken ≡ b → LeavesFiles f new s.whole (row r (replica_event.Other a.settled))
+      by false unbroken = left_unbroken f new s.whole r (replica_event.Other a.settled) (λ fault. subst IsSettling fault a.settling) unbroken
+      by true broke =
+          let info = same (a.broken_is ∙ broke) in
+          subst (λ d. LeavesFiles f d s.whole (row r (replica_event.Other a.settled))) (sym (alone (a.broken_is ∙ broke)))
+          (left_row f s.drawer s.whole r (replica_event.Other a.settled) info (still_bytes r a.settled info a.held.full.all) broke a.left)
+
 pub amid_with_bytes : {F : Type 0} (f : files.Ghosts F) (s : BookState F) (e : ReplicaEvent) (prior : Prior) (answer : Answer) (buffer : ℕ) → IsAmid f s e prior answer buffer → IsWithBytes e
 amid_with_bytes f s e prior answer buffer a = subst IsWithBytes (sym a.is) (settling_other a.settled a.settling)
 
@@ -247,22 +276,23 @@ replica_same f old mid p =
     ∙ (ap (λ s. replay (begun old.block s) mid.history.entries.items) p.history.start
     ∙ ap (replay (begun old.block old.history.start)) p.history.entries)
 
-held_kept : {F : Type 0} (f : files.Ghosts F) (old mid : F) (block : BlockId) (sum : ℕ) (r : FullReplica) → KeepsAll f old mid → IsHeld f old block sum r → IsHeld f mid block sum r
-held_kept f old mid block sum r kept held =
+held_kept : {F : Type 0} (f : files.Ghosts F) (old mid : F) (block : BlockId) (sum : ℕ) (r : FullReplica) → f.files mid ≡ f.files old → IsHeld f old block sum r → IsHeld f mid block sum r
+held_kept f old mid block sum r same held =
     record {
       fits = held.fits;
       of_block = held.of_block;
       full = held.full;
       are_bytes = held.are_bytes;
-      holds = subst (λ o. Holds o r) (sym kept.same) held.holds;
-      only = subst (OnlyOf block.0) (sym kept.same) held.only;
-      last = subst (λ (o : Option FileMap). IfSome o (λ _. HasLastSum sum r)) (sym kept.same) held.last;
+      holds = subst (λ o. Holds o r) (sym same) held.holds;
+      only = subst (OnlyOf block.0) (sym same) held.only;
+      last = subst (λ (o : Option FileMap). IfSome o (λ _. HasLastSum sum r)) (sym same) held.last;
     }
 
 pub book_prepared : {F : Type 0} (f : files.Ghosts F) (old mid : BookState F) → IsPrepared f old mid → IsBookOf f old → IsBookOf f mid
 book_prepared f old mid p book =
-    book_as f mid mid.drawer old.block old.last_sum (replica_of old) refl p.block p.last_sum (replica_same f old mid p) (p.replica ∙ book.known)
-    (held_kept f old.drawer mid.drawer old.block old.last_sum (replica_of old) p.drawer book.held)
+    book_as f mid mid.drawer old.block old.last_sum old.whole (replica_of old) refl p.block p.last_sum p.whole (replica_same f old mid p) (p.replica ∙ book.known)
+    (held_kept f old.drawer mid.drawer old.block old.last_sum (replica_of old) p.drawer.same book.held)
+    (left_kept f old.drawer mid.drawer old.whole (replica_of old) p.drawer.same p.drawer.log p.below book.left)
 
 notes_prepared : {F : Type 0} (f : files.Ghosts F) (old mid new : BookState F) (e : ReplicaEvent) (failed : Bool) (receipt : Receipt) → IsPrepared f old mid → Notes mid new e failed receipt → Notes old new e failed receipt
 notes_prepared f old mid new e failed receipt p n =
@@ -376,7 +406,7 @@ ends_stepped f old mid new e (Err fault.Memory) k ends = absurd ends
 
 pub reserved : {F : Type 0} (f : files.Ghosts F) (s : BookState F) (history : History) → IsSame s.history history → IsPrepared f s (record s { history = history })
 reserved f s history same =
-    record { block = refl; replica = refl; last_sum = refl; history = same; drawer = record { same = refl; log = refl; room = λ name. omega arith }; below = omega arith }
+    record { block = refl; replica = refl; last_sum = refl; whole = refl; history = same; drawer = record { same = refl; log = refl; room = λ name. omega arith }; below = omega arith }
 
 pub prepared_then : {F : Type 0} (f : files.Ghosts F) (a b c : BookState F) → IsPrepared f a b → IsPrepared f b c → IsPrepared f a c
 prepared_then f a b c p q =
@@ -384,6 +414,7 @@ prepared_then f a b c p q =
       block = q.block ∙ p.block;
       replica = q.replica ∙ p.replica;
       last_sum = q.last_sum ∙ p.last_sum;
+      whole = q.whole ∙ p.whole;
       history = record { start = q.history.start ∙ p.history.start; entries = q.history.entries ∙ p.history.entries };
       drawer = record { same = q.drawer.same ∙ p.drawer.same; log = q.drawer.log ∙ p.drawer.log; room = λ name. omega (arith, p.drawer.room name, q.drawer.room name) };
       below = omega (arith, p.below, q.below);
@@ -410,4 +441,4 @@ finished_ok P old new e answer made (Err why) fin p = tt
 -- A refusal from a book whose history has room.
 pub ends_barred : {F : Type 0} (f : files.Ghosts F) (old mid new : BookState F) (e : ReplicaEvent) (why : BookFault) → IsPrepared f old mid → IsRefusal f mid new e why → CallEnds f old new e (Err why)
 ends_barred f old mid new e why p ends =
-    ends_prepared f old mid new e (Err why) p (ends_refused f mid mid new e why (record { block = refl; drawer = refl; last_sum = refl; history = refl }) ends)
+    ends_prepared f old mid new e (Err why) p (ends_refused f mid mid new e why (record { block = refl; drawer = refl; last_sum = refl; history = refl; whole = refl }) ends)

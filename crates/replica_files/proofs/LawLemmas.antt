@@ -1,13 +1,9 @@
 -- The laws of books.
-use Rattle.std.proofs.Common.{◌≡◌, ℕ, ◌≤◌, Bool, true, false, List, [], ◌∷◌, ◌++◌, length, take, append-nil, Option, Some, None, IfSome, IsSome, Result, Ok, Err, refl, sym, ap, subst, ◌∙◌, if◌then◌else◌, arith}
-use Rattle.std.specs.List.{AllByRecursion}
+use Rattle.std.proofs.Common.{◌≡◌, ℕ, ◌≤◌, Bool, true, false, List, [], ◌∷◌, ◌++◌, length, take, append-nil, Option, Some, None, IsSome, Ok, Err, refl, sym, ap, subst, ◌∙◌, arith}
 use Rattle.std.proofs.lemmas.List.{take-take, take-append-le}
 use Rattle.hd_base.specs.FileMaps.{FileMap}
 use Rattle.hd_base.specs.declared.files.Files as files
 use Rattle.hd_base.specs.declared.numbers.Receipt.{Receipt}
-use Rattle.hd_base.specs.declared.numbers.Stamp.{Stamp}
-use Rattle.block_files.specs.Placements.{files_of}
-use Rattle.replica_core.specs.declared.events.Event.{Event}
 use Rattle.replica_core.specs.declared.events.Event.TheVariants as event
 use Rattle.replica_core.specs.declared.info.ReplicaInfo.{ReplicaInfo}
 use Rattle.replica_core.specs.Views.{acked_in, written_in}
@@ -20,15 +16,14 @@ use Rattle.replica_model.specs.declared.events.ReplicaEvent.TheVariants as repli
 use Rattle.replica_model.specs.declared.histories.Entry.{Entry}
 use Rattle.replica_model.specs.Rows.{FullReplica, IsFull, event_at, brought, row, broken}
 use Rattle.replica_model.specs.Histories.{begun, after_entry, replay}
-use Rattle.replica_model.specs.Plans.{HoldsInfo, Holds, placed_info}
+use Rattle.replica_model.specs.Plans.{HoldsInfo, Holds}
 use Rattle.replica_model.proofs.RowLemmas.{rows_keep_bytes}
 use Rattle.replica_files.specs.declared.book_state.BookState.{BookState}
-use Rattle.replica_files.specs.declared.faults.BookFault.{BookFault}
 use Rattle.replica_files.specs.declared.faults.BookFault.TheVariants as fault
 use Rattle.replica_files.specs.Entries.{IsSame}
-use Rattle.replica_files.specs.Books.{IsBookOf, replica_of}
-use Rattle.replica_files.specs.Endings.{Notes, BookEnds}
-use Rattle.replica_files.specs.Laws.{IsNoUpdate, KeepsAcked, EndsNoRecovery, HistoriesKeepAcked, CallsKeepAcked, CutsLeaveFronts, AreSameFiles, IsWhole, HistoriesDetermineFiles}
+use Rattle.replica_files.specs.Books.{replica_of}
+use Rattle.replica_files.specs.Endings.{Notes}
+use Rattle.replica_files.specs.Laws.{IsNoUpdate, KeepsAcked, EndsNoRecovery, HistoriesKeepAcked, CallsKeepAcked, CutsLeaveFronts, AreSameFiles, HistoriesDetermineFiles}
 use Rattle.replica_files.proofs.AckedLemmas.{IsNoEnd, acked_grows}
 use Rattle.replica_files.proofs.BookLemmas.{noted}
 

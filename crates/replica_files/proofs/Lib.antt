@@ -5,6 +5,7 @@ pub mod EndLemmas
 pub mod FindLemmas
 pub mod GrowLemmas
 pub mod LawLemmas
+pub mod LeftLemmas
 pub mod MakeLemmas
 pub mod OnlyLemmas
 pub mod ReadLemmas

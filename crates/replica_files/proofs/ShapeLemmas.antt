@@ -1,5 +1,5 @@
 -- What an event that is taken makes of block and state, and of what is held.
-use Rattle.std.proofs.Common.{◌≡◌, ℕ, ℤ, pos, negsuc, nat_abs, ◌+◌, ◌-◌, ◌<◌, ◌≤◌, max, not, is_none, Bool, true, false, [], slice_get, Option, Some, None, Result, Ok, Err, refl, sym, ap, subst, ◌∙◌, arith}
+use Rattle.std.proofs.Common.{◌≡◌, ◌⊎◌, inl, inr, ℕ, ℤ, pos, negsuc, nat_abs, ◌+◌, ◌-◌, ◌<◌, ◌≤◌, max, not, is_none, Bool, true, false, [], slice_get, Option, Some, None, Result, Ok, Err, refl, sym, ap, subst, ◌∙◌, arith}
 use Rattle.std.specs.Result.{IfOk}
 use Rattle.std.specs.Ordering.{int_eq}
 use Rattle.std.proofs.lemmas.Bool.Decides.{nat_tests}
@@ -31,73 +31,104 @@ use Rattle.replica_files.specs.Events.{IsSettling, IsCutting}
 
 -- ---- the block, and a broken replica
 
+-- The replica is of the same block, and broken just where it was.
+abbrev Keeps : ReplicaRecord → ReplicaRecord → Type 0
+Keeps c k = (k.block ≡ c.block) × (k.is_broken ≡ c.is_broken)
+
 -- The replica is of the same block, and broken if it was.
 abbrev pub StaysOf : ReplicaRecord → ReplicaRecord → Type 0
 StaysOf c k = (k.block ≡ c.block) × (c.is_broken ≡ true → k.is_broken ≡ true)
 
-same_stays : (c : ReplicaRecord) → StaysOf c c
-same_stays c = (refl, λ b. b)
+same_kept : (c : ReplicaRecord) → Keeps c c
+same_kept c = (refl, refl)
 
-new_stays : (c : ReplicaRecord) (original : ReplicaState) (conn : ConnId) (stamp : Stamp) (r : Rule) → StaysOf c (record_after c (new_transition c original conn stamp r))
-new_stays c original conn stamp r =
+new_keeps : (c : ReplicaRecord) (original : ReplicaState) (conn : ConnId) (stamp : Stamp) (r : Rule) → Keeps c (record_after c (new_transition c original conn stamp r))
+new_keeps c original conn stamp r =
     let made = done (set_writer c (settled_at original stamp r 0) (Some conn)) in
-    after_check (StaysOf c) c (not c.is_broken) refusal.Broken (check (is_none c.info) refusal.Exists made) (same_stays c) (λ _.
-    after_check (StaysOf c) c (is_none c.info) refusal.Exists made (same_stays c) (λ _. (refl, λ b. b)))
+    after_check (Keeps c) c (not c.is_broken) refusal.Broken (check (is_none c.info) refusal.Exists made) (same_kept c) (λ _.
+    after_check (Keeps c) c (is_none c.info) refusal.Exists made (same_kept c) (λ _. (refl, refl)))
 
-with_stays : (c : ReplicaRecord) (writer : Option ConnId) (make : ReplicaInfo → Result ReplicaInfo Refusal) → StaysOf c (record_after c (present c >>= (λ h. with_writer c writer (make h))))
-with_stays c writer make =
-    after_step (StaysOf c) c (present c) (λ h. with_writer c writer (make h)) (same_stays c) (λ h _.
-    after_step (StaysOf c) c (make h) (λ k. done (set_writer c k writer)) (same_stays c) (λ k _. (refl, λ b. b)))
+with_keeps : (c : ReplicaRecord) (writer : Option ConnId) (make : ReplicaInfo → Result ReplicaInfo Refusal) → Keeps c (record_after c (present c >>= (λ h. with_writer c writer (make h))))
+with_keeps c writer make =
+    after_step (Keeps c) c (present c) (λ h. with_writer c writer (make h)) (same_kept c) (λ h _.
+    after_step (Keeps c) c (make h) (λ k. done (set_writer c k writer)) (same_kept c) (λ k _. (refl, refl)))
 
-extent_stays : (c : ReplicaRecord) (h : ReplicaInfo) (s : Stream) (p : PacketExtent) → StaysOf c (record_after c (extent_transition c h s p))
+extent_keeps : (c : ReplicaRecord) (h : ReplicaInfo) (s : Stream) (p : PacketExtent) → Keeps c (record_after c (extent_transition c h s p))
 unfolding extent_transition
-extent_stays c h s p =
-    choice (λ (o : Outcome). StaysOf c (record_after c o)) (int_eq p.seqno (negsuc 0)) _ _
-    (λ _. after_step (StaysOf c) c (heartbeat_of p) (λ e. done (enqueue c e)) (same_stays c) (λ e _. (refl, λ b. b)))
-    (λ _. after_step (StaysOf c) c (stream_after s p) (λ u. pending_of h.sums p h.written >>= (λ e. done (extend c h u e))) (same_stays c) (λ u _.
-    after_step (StaysOf c) c (pending_of h.sums p h.written) (λ e. done (extend c h u e)) (same_stays c) (λ e _. (refl, λ b. b))))
+extent_keeps c h s p =
+    choice (λ (o : Outcome). Keeps c (record_after c o)) (int_eq p.seqno (negsuc 0)) _ _
+    (λ _. after_step (Keeps c) c (heartbeat_of p) (λ e. done (enqueue c e)) (same_kept c) (λ e _. (refl, refl)))
+    (λ _. after_step (Keeps c) c (stream_after s p) (λ u. pending_of h.sums p h.written >>= (λ e. done (extend c h u e))) (same_kept c) (λ u _.
+    after_step (Keeps c) c (pending_of h.sums p h.written) (λ e. done (extend c h u e)) (same_kept c) (λ e _. (refl, refl))))
 
-packet_stays : (c : ReplicaRecord) (conn : ConnId) (p : PacketExtent) → StaysOf c (record_after c (packet_transition c conn p))
-packet_stays c conn p =
-    after_step (StaysOf c) c (present c) (λ h. check (is_writable (state_of h)) refusal.NotWriter (stream_by c.stream conn >>= (λ s. extent_transition c h s p))) (same_stays c) (λ h _.
-    after_check (StaysOf c) c (is_writable (state_of h)) refusal.NotWriter (stream_by c.stream conn >>= (λ s. extent_transition c h s p)) (same_stays c) (λ _.
-    after_step (StaysOf c) c (stream_by c.stream conn) (λ s. extent_transition c h s p) (same_stays c) (λ s _. extent_stays c h s p)))
+packet_keeps : (c : ReplicaRecord) (conn : ConnId) (p : PacketExtent) → Keeps c (record_after c (packet_transition c conn p))
+packet_keeps c conn p =
+    after_step (Keeps c) c (present c) (λ h. check (is_writable (state_of h)) refusal.NotWriter (stream_by c.stream conn >>= (λ s. extent_transition c h s p))) (same_kept c) (λ h _.
+    after_check (Keeps c) c (is_writable (state_of h)) refusal.NotWriter (stream_by c.stream conn >>= (λ s. extent_transition c h s p)) (same_kept c) (λ _.
+    after_step (Keeps c) c (stream_by c.stream conn) (λ s. extent_transition c h s p) (same_kept c) (λ s _. extent_keeps c h s p)))
 
-acknowledge_stays : (c : ReplicaRecord) (h : ReplicaInfo) (e : PendingPacket) (good : Bool) → StaysOf c (acknowledge c h e good)
-acknowledge_stays c h e false = (refl, λ b. b)
-acknowledge_stays c h e true = choice (StaysOf c) e.last _ _ (λ _. (refl, λ b. b)) (λ _. (refl, λ b. b))
+acknowledge_keeps : (c : ReplicaRecord) (h : ReplicaInfo) (e : PendingPacket) (good : Bool) → Keeps c (acknowledge c h e good)
+acknowledge_keeps c h e false = (refl, refl)
+acknowledge_keeps c h e true = choice (Keeps c) e.last _ _ (λ _. (refl, refl)) (λ _. (refl, refl))
 
-ack_stays : (c : ReplicaRecord) (conn : ConnId) (seqno : ℤ) (good : Bool) → StaysOf c (state_after c (event.Ack conn seqno good))
+ack_keeps : (c : ReplicaRecord) (conn : ConnId) (seqno : ℤ) (good : Bool) → Keeps c (state_after c (event.Ack conn seqno good))
 unfolding transition
-ack_stays c conn seqno good =
-    after_step (StaysOf c) c (present c) (λ h. stream_by c.stream conn >>= (λ t. oldest_of (slice_get c.pending 0) seqno >>= (λ e. done (acknowledge c h e good)))) (same_stays c) (λ h _.
-    after_step (StaysOf c) c (stream_by c.stream conn) (λ t. oldest_of (slice_get c.pending 0) seqno >>= (λ e. done (acknowledge c h e good))) (same_stays c) (λ t _.
-    after_step (StaysOf c) c (oldest_of (slice_get c.pending 0) seqno) (λ e. done (acknowledge c h e good)) (same_stays c) (λ e _. acknowledge_stays c h e good)))
+ack_keeps c conn seqno good =
+    after_step (Keeps c) c (present c) (λ h. stream_by c.stream conn >>= (λ t. oldest_of (slice_get c.pending 0) seqno >>= (λ e. done (acknowledge c h e good)))) (same_kept c) (λ h _.
+    after_step (Keeps c) c (stream_by c.stream conn) (λ t. oldest_of (slice_get c.pending 0) seqno >>= (λ e. done (acknowledge c h e good))) (same_kept c) (λ t _.
+    after_step (Keeps c) c (oldest_of (slice_get c.pending 0) seqno) (λ e. done (acknowledge c h e good)) (same_kept c) (λ e _. acknowledge_keeps c h e good)))
+
+-- Every event but a fault of files leaves the block, and a replica broken or not.
+keeps_of : (c : ReplicaRecord) (e : Event) → Keeps c (state_after c e) ⊎ (e ≡ event.FileFault)
+unfolding transition
+keeps_of c (event.Create conn stamp sums) =
+    inl (new_keeps c state.Rbw conn stamp sums)
+keeps_of c (event.Temporary conn stamp sums) =
+    inl (new_keeps c state.Temporary conn stamp sums)
+keeps_of c (event.Append conn named new n) =
+    inl (with_keeps c (Some conn) (λ h. reopen h named new n))
+keeps_of c (event.AppendRecovery conn named new n) =
+    inl (with_keeps c (Some conn) (λ h. recover_setup h named new n state.Rbw))
+keeps_of c (event.StreamRecovery conn named new low high) =
+    inl (with_keeps c (Some conn) (λ h. recover_stream h named new low high))
+keeps_of c (event.CloseRecovery named new n) =
+    inl (with_keeps c None (λ h. recover_setup h named new n state.Finalized))
+keeps_of c (event.Packet conn seqno offset n sums last sync bad) =
+    inl (packet_keeps c conn (record { seqno = seqno; offset = offset; length = n; sums = sums; last = last; sync = sync; bad = bad }))
+keeps_of c (event.Ack conn seqno good) =
+    inl (ack_keeps c conn seqno good)
+keeps_of c (event.Ended conn) =
+    inl (choice (Keeps c) (is_written_by c.stream conn) (record c { stream = None; pending = [] }) c (λ _. (refl, refl)) (λ _. same_kept c))
+keeps_of c (event.Init named recovery) =
+    inl (after_step (Keeps c) c (present c) (λ h. begin_recovery h named recovery >>= (λ k. Ok (record { replica = set_writer c k None; answer = answer.Info h.original h.stamp h.written }))) (same_kept c) (λ h _.
+    after_step (Keeps c) c (begin_recovery h named recovery) (λ k. Ok (record { replica = set_writer c k None; answer = answer.Info h.original h.stamp h.written })) (same_kept c) (λ k _. (refl, refl))))
+keeps_of c (event.Update recovery n) =
+    inl (with_keeps c None (λ h. end_recovery h h.recovery recovery n))
+keeps_of c (event.Read named offset n) =
+    inl (after_step (Keeps c) c (present c) (λ h. readable h (visible_of h) named offset n >>= (λ visible. Ok (record { replica = c; answer = answer.Visible visible }))) (same_kept c) (λ h _.
+    after_step (Keeps c) c (readable h (visible_of h) named offset n) (λ visible. Ok (record { replica = c; answer = answer.Visible visible })) (same_kept c) (λ _ _. same_kept c)))
+keeps_of c (event.Give named offset n) =
+    inl (after_step (Keeps c) c (present c) (λ h. given h named offset n >>= (λ visible. Ok (record { replica = c; answer = answer.Visible visible }))) (same_kept c) (λ h _.
+    after_step (Keeps c) c (given h named offset n) (λ visible. Ok (record { replica = c; answer = answer.Visible visible })) (same_kept c) (λ _ _. same_kept c)))
+keeps_of c event.FileFault = inr refl
+
+fault_stays : (c : ReplicaRecord) → StaysOf c (state_after c event.FileFault)
+unfolding transition
+fault_stays c = (refl, λ _. refl)
 
 -- Every event leaves the block, and a broken replica broken.
 pub stays_of : (c : ReplicaRecord) (e : Event) → StaysOf c (state_after c e)
-unfolding transition
-stays_of c (event.Create conn stamp sums) = new_stays c state.Rbw conn stamp sums
-stays_of c (event.Temporary conn stamp sums) = new_stays c state.Temporary conn stamp sums
-stays_of c (event.Append conn named new n) = with_stays c (Some conn) (λ h. reopen h named new n)
-stays_of c (event.AppendRecovery conn named new n) = with_stays c (Some conn) (λ h. recover_setup h named new n state.Rbw)
-stays_of c (event.StreamRecovery conn named new low high) = with_stays c (Some conn) (λ h. recover_stream h named new low high)
-stays_of c (event.CloseRecovery named new n) = with_stays c None (λ h. recover_setup h named new n state.Finalized)
-stays_of c (event.Packet conn seqno offset n sums last sync bad) =
-    packet_stays c conn (record { seqno = seqno; offset = offset; length = n; sums = sums; last = last; sync = sync; bad = bad })
-stays_of c (event.Ack conn seqno good) = ack_stays c conn seqno good
-stays_of c (event.Ended conn) = choice (StaysOf c) (is_written_by c.stream conn) (record c { stream = None; pending = [] }) c (λ _. (refl, λ b. b)) (λ _. same_stays c)
-stays_of c (event.Init named recovery) =
-    after_step (StaysOf c) c (present c) (λ h. begin_recovery h named recovery >>= (λ k. Ok (record { replica = set_writer c k None; answer = answer.Info h.original h.stamp h.written }))) (same_stays c) (λ h _.
-    after_step (StaysOf c) c (begin_recovery h named recovery) (λ k. Ok (record { replica = set_writer c k None; answer = answer.Info h.original h.stamp h.written })) (same_stays c) (λ k _. (refl, λ b. b)))
-stays_of c (event.Update recovery n) = with_stays c None (λ h. end_recovery h h.recovery recovery n)
-stays_of c (event.Read named offset n) =
-    after_step (StaysOf c) c (present c) (λ h. readable h (visible_of h) named offset n >>= (λ visible. Ok (record { replica = c; answer = answer.Visible visible }))) (same_stays c) (λ h _.
-    after_step (StaysOf c) c (readable h (visible_of h) named offset n) (λ visible. Ok (record { replica = c; answer = answer.Visible visible })) (same_stays c) (λ _ _. same_stays c))
-stays_of c (event.Give named offset n) =
-    after_step (StaysOf c) c (present c) (λ h. given h named offset n >>= (λ visible. Ok (record { replica = c; answer = answer.Visible visible }))) (same_stays c) (λ h _.
-    after_step (StaysOf c) c (given h named offset n) (λ visible. Ok (record { replica = c; answer = answer.Visible visible })) (same_stays c) (λ _ _. same_stays c))
-stays_of c event.FileFault = (refl, λ _. refl)
+stays_of c e = by (keeps_of c e) where
+  by : Keeps c (state_after c e) ⊎ (e ≡ event.FileFault) → StaysOf c (state_after c e)
+  by (inl kept) = (kept.0, λ broken. kept.1 ∙ broken)
+  by (inr is) = subst (λ (x : Event). StaysOf c (state_after c x)) (sym is) (fault_stays c)
+
+-- Any but a fault of files leaves one unbroken.
+pub unbroken_of : (c : ReplicaRecord) (e : Event) → (e ≡ event.FileFault → ⊥) → c.is_broken ≡ false → (state_after c e).is_broken ≡ false
+unbroken_of c e no_fault unbroken = by (keeps_of c e) where
+  by : Keeps c (state_after c e) ⊎ (e ≡ event.FileFault) → (state_after c e).is_broken ≡ false
+  by (inl kept) = kept.1 ∙ unbroken
+  by (inr is) = absurd (no_fault is)
 
 -- ---- events that are neither packets nor make a new replica
 

@@ -172,7 +172,7 @@ broken_refuses c (event.Read named offset n) is for_whole = then_broken c _ is
 broken_refuses c (event.Give named offset n) is for_whole = then_broken c _ is
 broken_refuses c event.FileFault is for_whole = absurd for_whole
 
-event_for_whole : (r : FullReplica) (e : ReplicaEvent) → NeedsWhole e → IsForWhole (event_at r e)
+pub event_for_whole : (r : FullReplica) (e : ReplicaEvent) → NeedsWhole e → IsForWhole (event_at r e)
 event_for_whole r (replica_event.Packet conn p) needs = tt
 event_for_whole r (replica_event.Other e) needs = needs
 

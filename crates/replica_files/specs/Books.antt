@@ -14,6 +14,7 @@ use Rattle.replica_model.specs.Histories.{replayed}
 use Rattle.replica_model.specs.Plans.{Holds, plan, placement_of}
 use Rattle.replica_calls.specs.CallLists.{remove_list}
 use Rattle.replica_calls.specs.LastSums.{IsLastSum}
+use Rattle.replica_files.specs.Breaks.{LeavesFiles}
 use Rattle.replica_files.specs.declared.book_state.BookState.{BookState}
 
 -- the replica that a book's history leads to
@@ -35,10 +36,11 @@ pub record IsHeld {F : Type 0} (f : files.Ghosts F) (drawer : F) (block : BlockI
     pub only : OnlyOf block.0 (f.files drawer)
     pub last : IfSome (f.files drawer) (λ _. HasLastSum sum r)
 
--- The replica is the one that the history leads to, and the files hold it.
+-- The replica is the one that the history leads to, and the files hold it, or are what a failed call left of them.
 pub record IsBookOf {F : Type 0} (f : files.Ghosts F) (s : BookState F) : Type 0 where
   pub known : s.replica ≡ (replica_of s).known
   pub held : IsHeld f s.drawer s.block s.last_sum (replica_of s)
+  pub left : LeavesFiles f s.drawer s.whole (replica_of s)
 
 -- The replica takes the event.
 abbrev pub Takes : FullReplica → ReplicaEvent → Type 0

@@ -1,5 +1,5 @@
 -- Laws of books.
-use Rattle.std.specs.Prelude.{ℕ, ◌≡◌, ◌≤◌, false, List, length, take, Option, Some, None, IsSome, Result}
+use Rattle.std.specs.Prelude.{ℕ, ◌≡◌, ◌≤◌, false, List, length, take, Option, Some, IsSome, Result}
 use Rattle.std.specs.List.{AllByRecursion}
 use Rattle.hd_base.specs.FileMaps.{FileMap}
 use Rattle.hd_base.specs.declared.files.Files as files

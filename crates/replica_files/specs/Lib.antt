@@ -1,5 +1,6 @@
 pub mod Entries
 pub mod Events
+pub mod Breaks
 pub mod Books
 pub mod Carried
 pub mod Steps

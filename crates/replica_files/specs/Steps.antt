@@ -1,5 +1,5 @@
 -- What stands between the parts of a book's calls.
-use Rattle.std.specs.Prelude.{ℕ, ◌≡◌, ◌<◌, ◌≤◌, length, List, Option, None, Result, IfOk, IsErr}
+use Rattle.std.specs.Prelude.{ℕ, ◌≡◌, ◌<◌, ◌≤◌, false, length, List, Option, None, Result, IfOk, IsErr}
 use Rattle.hd_base.specs.declared.files.Files as files
 use Rattle.hd_base.specs.declared.files.FileError.{FileError}
 use Rattle.replica_core.specs.declared.info.ReplicaInfo.{ReplicaInfo}
@@ -16,6 +16,7 @@ use Rattle.replica_calls.specs.Performed.{KeepsAll}
 use Rattle.replica_files.specs.Entries.{IsSame}
 use Rattle.replica_files.specs.Events.{IsSettling, IsMadeBy}
 use Rattle.replica_files.specs.Carried.{HasRoomFor, IsToMake}
+use Rattle.replica_files.specs.Breaks.{IsLeft, LeavesFiles}
 use Rattle.replica_files.specs.Books.{replica_of, IsHeld, Takes}
 use Rattle.replica_files.specs.declared.book_state.BookState.{BookState}
 use Rattle.replica_files.specs.declared.book_state.Prior.{Prior}
@@ -41,12 +42,14 @@ pub record KeepsFiles {F : Type 0} (old new : BookState F) : Type 0 where
   pub drawer : new.drawer ≡ old.drawer
   pub replica : new.replica ≡ old.replica
   pub last_sum : new.last_sum ≡ old.last_sum
+  pub whole : new.whole ≡ old.whole
 
 -- Memory was taken: the book is the same, with at least the room that its files had.
 pub record IsPrepared {F : Type 0} (f : files.Ghosts F) (old new : BookState F) : Type 0 where
   pub block : new.block ≡ old.block
   pub replica : new.replica ≡ old.replica
   pub last_sum : new.last_sum ≡ old.last_sum
+  pub whole : new.whole ≡ old.whole
   pub history : IsSame old.history new.history
   pub drawer : KeepsAll f old.drawer new.drawer
   pub below : f.faults old.drawer ≤ f.faults new.drawer
@@ -57,6 +60,7 @@ pub record KeepsBook {F : Type 0} (old new : BookState F) : Type 0 where
   pub drawer : new.drawer ≡ old.drawer
   pub last_sum : new.last_sum ≡ old.last_sum
   pub history : new.history ≡ old.history
+  pub whole : new.whole ≡ old.whole
 
 -- The replica has met an event that has no entry yet, and this is its answer.
 pub record IsStepped {F : Type 0} (old new : BookState F) (e : ReplicaEvent) (result : Result Answer Refusal) : Type 0
@@ -73,6 +77,8 @@ pub record IsToNote {F : Type 0} (f : files.Ghosts F) (s : BookState F) (e : Rep
   pub before_is : before ≡ (replica_of s).known.info
   pub done : IfOk made (λ sum. IsHeld f s.drawer s.block sum (row (replica_of s) e))
   pub failed : IsErr made → IsHeld f s.drawer s.block s.last_sum (broken (replica_of s))
+  pub still : IfOk made (λ _. LeavesFiles f s.drawer s.whole (row (replica_of s) e))
+  pub left : IsErr made → IsLeft f s.drawer false (broken (replica_of s))
 
 -- The replica has taken an event that settles what it held, and no call on the files is made yet.
 pub record IsAmid {F : Type 0} (f : files.Ghosts F) (s : BookState F) (e : ReplicaEvent) (prior : Prior)
@@ -86,6 +92,7 @@ pub record IsAmid {F : Type 0} (f : files.Ghosts F) (s : BookState F) (e : Repli
   pub broken_is : prior.is_broken ≡ (replica_of s).known.is_broken
   pub before_is : prior.info ≡ (replica_of s).known.info
   pub held : IsHeld f s.drawer s.block s.last_sum (replica_of s)
+  pub left : LeavesFiles f s.drawer s.whole (replica_of s)
   pub room : HasRoomFor (f.room s.drawer) s.block settled prior.info buffer
 
 -- The replica has taken an event that makes it, and no call on the files is made yet.
@@ -103,6 +110,14 @@ pub record IsAmidMaking {F : Type 0} (f : files.Ghosts F) (s : BookState F) (e :
 
 -- All but the drawer is as it was.
 pub record KeepsRest {F : Type 0} (old new : BookState F) : Type 0 where
+  pub block : new.block ≡ old.block
+  pub replica : new.replica ≡ old.replica
+  pub last_sum : new.last_sum ≡ old.last_sum
+  pub history : new.history ≡ old.history
+  pub whole : new.whole ≡ old.whole
+
+-- Block, replica, kept sum and history are as they were.
+pub record KeepsReplica {F : Type 0} (old new : BookState F) : Type 0 where
   pub block : new.block ≡ old.block
   pub replica : new.replica ≡ old.replica
   pub last_sum : new.last_sum ≡ old.last_sum

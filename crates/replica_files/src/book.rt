@@ -1,22 +1,25 @@
 //! A replica's book.
 
-ghost use Rattle.std.specs.Prelude.{◌≡◌, ◌⊎◌, ◌<◌, ◌≤◌, length, IfOk, IfErr, OnErr};
+ghost use Rattle.std.specs.Prelude.{◌≡◌, ◌⊎◌, ◌<◌, ◌≤◌, false, true, [], length, option_map, IfOk, IfErr, OnOk, OnErr};
+ghost use Rattle.hd_base.specs.Faults.{FaultsIncreased};
 ghost use Rattle.hd_base.specs.FileMaps.{OnlyOf};
 ghost use Rattle.replica_core.specs.declared.ack_queue.TheConstants.{MAX_PENDING};
 ghost use Rattle.replica_model.specs.declared.events.ReplicaEvent.TheVariants as ReplicaEvent;
 ghost use Rattle.replica_files.specs.Events.{IsSetup};
+ghost use Rattle.replica_files.specs.Breaks.{HoldsWhole};
 ghost use Rattle.replica_files.specs.Books.{IsBookOf, replica_of};
 ghost use Rattle.replica_files.specs.Finding.{HoldsFound, IsFound, GivesBack};
 ghost use Rattle.replica_files.specs.Reads.{ReadsBytes};
-ghost use Rattle.replica_files.specs.Steps.{KeepsRest};
+ghost use Rattle.replica_files.specs.Steps.{KeepsRest, KeepsReplica};
 ghost use Rattle.replica_files.specs.Summing.{SumsWritten, LeavesBook, SumsFor};
 ghost use Rattle.replica_files.specs.Endings.{BookEnds, InitEnds, IsReceiptOf, IsNew};
 
 use crate::book_state::{BookState, Taken};
 use crate::faults::{BookFault, FoundFault, SumFault};
 use crate::finding::read_found;
-use hd_base::{Armed, BlockId, ConnId, Files, Receipt, ReplicaState, Stamp, SumRule};
+use hd_base::{BlockId, ConnId, Files, Receipt, ReplicaState, Stamp, SumRule};
 use packet_codec::Packet;
+use refusing_files::Refusing;
 use replica_calls::FileNames;
 use replica_core::{Answer, Event, Replica};
 use replica_model::{History, Start, folder_of};
@@ -73,6 +76,7 @@ impl<F: Files> ReplicaBook<F> {
             replica,
             last_sum: 0,
             history,
+            whole: false,
         };
         Ok(ReplicaBook { state })
     }
@@ -118,6 +122,7 @@ impl<F: Files> ReplicaBook<F> {
             replica,
             last_sum,
             history,
+            whole: false,
         };
         Ok(ReplicaBook { state })
     }
@@ -255,6 +260,14 @@ impl<F: Files> ReplicaBook<F> {
         self.state.history.entries.len() as u64
     }
 
+    /// Whether the files hold the replica as it was before it broke, or it isn't broken.
+    pub fn has_whole_files(&self) -> bool
+        ensures whole { result ≡ true → HoldsWhole (F.files self.now.drawer) (replica_of self.now) }
+        ensures cause { result ≡ false → FaultsIncreased 0 (F.faults self.now.drawer) }
+    {
+        !self.state.replica.is_broken() || self.state.whole
+    }
+
     /// The drawer and the history. Takes no memory.
     pub fn close_book(self) -> (F, History)
         ensures drawer { result.0 ≡ self.drawer }
@@ -265,21 +278,31 @@ impl<F: Files> ReplicaBook<F> {
     }
 }
 
-impl<F: Armed> ReplicaBook<F> {
-    /// The `nth` coming write on the data file is to fail; with 0 none is.
-    pub fn arm(&mut self, nth: u64)
-        ensures left { F.writes_left self.new.drawer ≡ nth }
+impl<F: Refusing> ReplicaBook<F> {
+    /// From now on writes on the data file are refused. Want of memory changes nothing that is observable.
+    pub fn refuse_writes(&mut self, alloc: Global) -> Result<(), AllocError>
+        ensures begins { OnOk result (F.log self.new.drawer
+            ≡ option_map (λ m. record { start = m; calls = [] }) (F.files self.old.drawer)) }
+        ensures none { OnOk result (F.refused self.new.drawer ≡ false) }
         ensures files { F.files self.new.drawer ≡ F.files self.old.drawer }
-        ensures log { F.log self.new.drawer ≡ F.log self.old.drawer }
+        ensures faults { F.faults self.new.drawer ≡ F.faults self.old.drawer }
         ensures kept { KeepsRest self.old self.new }
     {
-        self.state.drawer.arm(nth);
+        self.state.drawer.refuse_writes(alloc)
     }
 
-    /// The number of writes that is still to run down, 0 where none is to fail.
-    pub fn left(&self) -> u64
-        ensures { result ≡ F.writes_left self.now.drawer }
+    /// From now on they are made. Answers whether one was refused.
+    pub fn take_writes(&mut self) -> bool
+        ensures refused { result ≡ F.refused self.old.drawer }
+        ensures files { F.files self.new.drawer ≡ F.files self.old.drawer }
+        ensures faults { F.refused self.old.drawer ≡ false → F.faults self.new.drawer ≡ F.faults self.old.drawer }
+        ensures kept { KeepsReplica self.old self.new }
     {
-        self.state.drawer.left()
+        let refused = self.state.drawer.take_writes();
+        // A call that was refused left the files as they were.
+        if refused {
+            self.state.whole = true;
+        }
+        refused
     }
 }

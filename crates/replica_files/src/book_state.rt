@@ -1,6 +1,6 @@
 //! What a book keeps, and how it takes an event.
 
-ghost use Rattle.std.specs.Prelude.{◌≡◌, true, OnOk, IfSome, Err};
+ghost use Rattle.std.specs.Prelude.{◌≡◌, false, true, OnOk, IfSome, Err};
 ghost use Rattle.replica_core.specs.Transitions.{transition, IsLawful};
 ghost use Rattle.replica_core.specs.Sound.{IsConsistent};
 ghost use Rattle.replica_model.specs.Rows.{event_at, record_event, IsWithBytes};
@@ -16,8 +16,8 @@ use replica_core::{Answer, Event, MAX_PENDING, Refusal, Replica, ReplicaInfo};
 use replica_model::{Entry, History, ReplicaEvent, packet_event};
 use std::alloc::AllocError;
 
-/// What a book keeps: its block, the files, the replica, the sum of the bytes in its last chunk, and the
-/// history.
+/// What a book keeps: its block, the files, the replica, the sum of the bytes in its last chunk, the history,
+/// and whether the files are known to hold a broken replica as it was before it broke.
 #[derive(Drop)]
 pub struct BookState<F: Files> {
     pub block: BlockId,
@@ -25,6 +25,7 @@ pub struct BookState<F: Files> {
     pub replica: Replica,
     pub last_sum: u32,
     pub history: History,
+    pub whole: bool,
 }
 
 /// An event that was taken: the replica's answer, and the receipt of its entry.
@@ -149,6 +150,7 @@ impl<F: Files> BookState<F> {
             }
             Err(_) => {
                 self.replica.break_from(prior.info);
+                self.whole = false;
                 Err(BookFault::File(self.note(event, true)))
             }
         }
@@ -167,15 +169,17 @@ impl<F: Files> BookState<F> {
     }
 
     /// Adds the entry of an event for which something failed before any of its calls, which breaks the
-    /// replica.
+    /// replica. Its files stay as they are.
     pub(crate) fn fail(&mut self, event: ReplicaEvent) -> BookFault
         requires book { IsBookOf F.Files self.old }
         requires spare { HasSpare self.old.history }
+        requires unbroken { self.old.replica.is_broken ≡ false }
         ensures book { IsBookOf F.Files self.new }
         ensures fails { Fails F.Files self.old self.new event result }
     {
         let held = self.replica.info();
         self.replica.break_from(held);
+        self.whole = true;
         BookFault::File(self.note(event, true))
     }
 }

@@ -1,6 +1,6 @@
 //! Events that are no packets and make no new replica.
 
-ghost use Rattle.std.specs.Prelude.{◌≡◌, ℕ, ◌≤◌, List, length, take, false, IfOk, IfSome, Err, IsErr};
+ghost use Rattle.std.specs.Prelude.{◌≡◌, ℕ, ◌≤◌, List, length, take, false, true, IfOk, IfSome, Err, IsErr};
 ghost use Rattle.hd_base.specs.Faults.{HasCause};
 ghost use Rattle.replica_calls.specs.LastSums.{IsLastSum};
 ghost use Rattle.replica_calls.specs.Performed.{KeepsAll};
@@ -76,6 +76,7 @@ pub(crate) fn settle_info<F: Files>(
 ) -> Result<u32, FileError>
     requires { IsAmidSettling F.Files drawer.old block prior.now next last_sum (length buffer.old) }
     ensures whole { IsErr result → prior.now.is_broken ≡ false }
+    ensures alone { prior.now.is_broken ≡ true → drawer.new ≡ drawer.old }
     ensures carried { (a : IsAmidSettling F.Files drawer.old block prior.now next last_sum (length buffer.old))
         → CarriesOut F.Files drawer.old drawer.new block a.r (ReplicaEvent.Other a.e) result }
 {

@@ -10,6 +10,6 @@ returns-clause-book g c =
     let new = c.note.new.self in
     let n = c.note.ensures.noted in
     let kept = c.note.ensures.kept in
-    book_as g.F.Files new old.drawer old.block old.last_sum (replica_of old) kept.drawer n.block kept.last_sum
+    book_as g.F.Files new old.drawer old.block old.last_sum old.whole (replica_of old) kept.drawer n.block kept.last_sum kept.whole
     (noted old new c.args.event false c.note.result n ∙ refused_row (replica_of old) c.args.event c.args.refusal c.requires.refused c.requires.book.held.full)
-    (kept.replica ∙ c.requires.book.known) c.requires.book.held
+    (kept.replica ∙ c.requires.book.known) c.requires.book.held c.requires.book.left

@@ -16,7 +16,7 @@ returns-in-Refused g c =
     let same : e ≡ event_at r c.args.event.now =
     c.core_event-event.ensures.value ∙ ap (λ o. record_event o c.args.event.now) (c.rule.ensures ∙ ap rule_in known) in
     record {
-      kept = record { block = refl; drawer = refl; last_sum = refl; history = refl };
+      kept = record { block = refl; drawer = refl; last_sum = refl; history = refl; whole = refl };
       known = c.step.ensures.replica ∙ ap (λ k. state_after k e) known ∙ ap (state_after r.known) same;
       answered = is_refused s.replica e c.step.result c.in-Refused.refusal c.step.ensures.answer c.in-Refused.is ∙ ap (λ k. reply (transition k e)) known ∙ ap (λ x. reply (transition r.known x)) same;
     }
