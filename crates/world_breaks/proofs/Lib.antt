@@ -1,5 +1,9 @@
 pub mod Calls
 pub mod Rows
+pub mod Keeping
 pub mod Leaving
+pub mod Happening
 pub mod AllUnbroken
+pub mod Growing
+pub mod Spared
 pub mod WorldLaws
