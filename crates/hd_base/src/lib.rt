@@ -3,7 +3,6 @@
 //! can show it, and counts its own faults, so that every error that a caller sees has its cause.
 #![tactic(auto)]
 
-mod armed;
 mod byte_list;
 mod ends;
 mod file_name;
@@ -17,7 +16,6 @@ mod states;
 mod streams;
 mod sum_rule;
 
-pub use armed::Armed;
 pub use byte_list::ByteList;
 pub use ends::{Conn, RoadError, Standing};
 pub use file_name::{FileName, MAX_NAME_LENGTH, base, least_decimal};
