@@ -159,21 +159,21 @@ module _ {O : Type 0} (o : link_out.Ghosts O) where
 pub file_book : {F : Type 0} (f : files.Ghosts F) (e : ReplicaEvent) (book book' : BookState F) (answered : Result Receipt BookFault) → BookEnds f book book' e answered → (receipt : Receipt) → answered ≡ Err (fault.File receipt) → FaultsIncreased (f.faults book.drawer) (f.faults book'.drawer)
 file_book f e book book' answered b receipt is = (subst (λ (x : Result Receipt BookFault). BookEnds f book book' e x) is b).rose
 
-packet_file : (x : Taken) (receipt : Receipt) → packet_done x ≡ done.File receipt → receiving.booked_as x ≡ Err (fault.File receipt)
+pub packet_file : (x : Taken) (receipt : Receipt) → packet_done x ≡ done.File receipt → receiving.booked_as x ≡ Err (fault.File receipt)
 packet_file (taken.File r) receipt h = let e : r ≡ receipt = cc in ap (λ (y : Receipt). Err (fault.File y)) e
 packet_file (taken.Booked r) receipt h = cc
 packet_file (taken.MirrorFailed r) receipt h = cc
 packet_file (taken.Refused why r) receipt h = cc
 packet_file taken.Memory receipt h = cc
 
-sending_file : (s : Sending) (receipt : Receipt) → sending_done s ≡ done.File receipt → responding.booked_in s ≡ Err (fault.File receipt)
+pub sending_file : (s : Sending) (receipt : Receipt) → sending_done s ≡ done.File receipt → responding.booked_in s ≡ Err (fault.File receipt)
 sending_file (sending.File r) receipt h = let e : r ≡ receipt = cc in ap (λ (y : Receipt). Err (fault.File y)) e
 sending_file (sending.Done r) receipt h = cc
 sending_file (sending.LinkFailed r) receipt h = cc
 sending_file (sending.Refused why r) receipt h = cc
 sending_file sending.Memory receipt h = cc
 
-alone_file : {O : Type 0} (o : link_out.Ghosts O) (text : Option (List ℕ)) (d : Done) (receipt : Receipt) (up sent : O) → d ≡ done.File receipt → SendsAlone o text d up sent → ⊥
+pub alone_file : {O : Type 0} (o : link_out.Ghosts O) (text : Option (List ℕ)) (d : Done) (receipt : Receipt) (up sent : O) → d ≡ done.File receipt → SendsAlone o text d up sent → ⊥
 alone_file o None d receipt up sent is h = subst (λ (x : Done). SendsAlone o None x up sent) is h
 alone_file o (Some text) d receipt up sent is h = subst (λ (x : Done). SendsAlone o (Some text) x up sent) is h
 

@@ -86,7 +86,7 @@ module _ {R I O : Type 0} (r : roads.Ghosts R I O) (i : link_in.Ghosts I) (o : l
 
 -- STEPS THAT FAILED
 
-risen_above : (risen : ℕ → Bool) (c : ℕ) (mirror : Option ℕ) → risen c ≡ true → HasRisen risen c mirror
+pub risen_above : (risen : ℕ → Bool) (c : ℕ) (mirror : Option ℕ) → risen c ≡ true → HasRisen risen c mirror
 risen_above risen c None h = h
 risen_above risen c (Some d) h = inl h
 

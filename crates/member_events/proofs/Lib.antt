@@ -12,7 +12,11 @@ pub mod ReadyLaws
 pub mod EventEndLemmas
 pub mod FaultEvents
 pub mod ReadyEvents
+pub mod Growth
+pub mod BookCalls
+pub mod TurnBreaks
 pub mod DownEvents
+pub mod DownEnds
 pub mod UpEvents
 pub mod FirstEvents
 pub mod BeginEvents

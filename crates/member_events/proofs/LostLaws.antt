@@ -228,6 +228,17 @@ module _ {F I O : Type 0} (f : files.Ghosts F) (i : link_in.Ghosts I) (o : link_
       (λ is. subst (λ (y : I). FaultsIncreased (i.faults old.upstream.inward) (i.faults y)) (sym (end_inward (is_failed g.found) _ g.seen.upstream g.looks.shuts))
       (failed_above g.seen.above old.upstream.inward g.looks.inward (subst (λ (x : Looked). ReceivesAbove i nothing_above g.seen.above old.upstream.inward g.looks.inward x) is rc))) g.takes
 
+  -- Where a call on files failed after its link from above had failed, that counts.
+  pub file_lost : (m : MemberState) (old new : Member I O) (book book' : BookState F) (receipt : Receipt) → old.above ≡ nothing_above → (g : GoesDownBy f i o m old new book book' (stepped.File receipt)) → g.found ≡ looked.Failed → has_failed i o new.upstream ≡ true
+  file_lost m old new book book' receipt none g failed =
+      let rc : ReceivesAbove i nothing_above g.seen.above old.upstream.inward g.looks.inward g.found =
+      subst (λ (a : AboveState). LooksAbove i a.next a g.seen.above old.upstream.inward g.looks.inward g.found) none g.looks.looks in
+      let rose : FaultsIncreased (i.faults old.upstream.inward) (i.faults g.seen.upstream.inward) =
+      subst (λ (y : I). FaultsIncreased (i.faults old.upstream.inward) (i.faults y)) (sym (end_inward (is_failed g.found) _ g.seen.upstream g.looks.shuts))
+      (failed_above g.seen.above old.upstream.inward g.looks.inward (subst (λ (x : Looked). ReceivesAbove i nothing_above g.seen.above old.upstream.inward g.looks.inward x) failed rc)) in
+      let t = subst (λ (x : Looked). TakesDown f o m (finds_no_memory x) x g.seen new book book' (stepped.File receipt)) failed g.takes in
+      in_failed i o (i.faults old.upstream.inward) new.upstream (subst (λ (y : I). FaultsIncreased (i.faults old.upstream.inward) (i.faults y)) (sym (if_inward m _ took.Above g.seen new book book' t.answer t.takes)) rose)
+
   pub down_file : (m : MemberState) (old new : Member I O) (book book' : BookState F) (receipt : Receipt) → GoesDownBy f i o m old new book book' (stepped.File receipt) → FaultsIncreased (f.faults book.drawer) (f.faults book'.drawer)
   down_file m old new book book' receipt g = file_found m g.found g.seen new book book' receipt g.takes
 

@@ -140,7 +140,7 @@ refused_over : (m : MemberState) (t : Turn) (why : Refusal) → (refused_turn m 
 refused_over m t (refusal.BadSum chunk) h = bad_over m t.call t h
 refused_over m t why h = closed_over t.side m
 
-settled_over : (m : MemberState) (t : Turn) (b : Booked) → (settled m t b).1.shuts ≢ shuts.Nothing → is_over_by (settled m t b).0 ≡ false
+pub settled_over : (m : MemberState) (t : Turn) (b : Booked) → (settled m t b).1.shuts ≢ shuts.Nothing → is_over_by (settled m t b).0 ≡ false
 settled_over m t booked.Taken h = shut_over t.effect.shuts t.side (record m { mirror = t.mirror }) h
 settled_over m t (booked.Refused why) h = refused_over m t why h
 settled_over m t booked.Failed h = closed_over t.side m

@@ -82,7 +82,8 @@ MirrorSends o text shut None None = Unit {0}
 MirrorSends o text shut (Some old) (Some new) = EndSends o text shut old new
 MirrorSends o text shut old new = ⊥
 
-abbrev MirrorSays : {I O : Type 0} → link_out.Ghosts O → Option (List ℕ) → Option (Conn I O) → Option (Conn I O) → Type 0
+-- The same of the end to the mirror, if there is one, where nothing is shut.
+abbrev pub MirrorSays : {I O : Type 0} → link_out.Ghosts O → Option (List ℕ) → Option (Conn I O) → Option (Conn I O) → Type 0
 MirrorSays o text None None = Unit {0}
 MirrorSays o text (Some old) (Some new) = KeepsInward old new × HasSaid o text old.outward new.outward
 MirrorSays o text old new = ⊥
@@ -108,7 +109,7 @@ module _ {O : Type 0} (o : link_out.Ghosts O) where
   text_done None r up sent h = inl h.1
   text_done (Some text) r up sent h = h
 
-  text_refused : (text : Option (List ℕ)) (why : Refusal) (r : Receipt) (up sent : O) → SendsText o text (sending.Refused why r) up sent → HasSaid o None up sent
+  pub text_refused : (text : Option (List ℕ)) (why : Refusal) (r : Receipt) (up sent : O) → SendsText o text (sending.Refused why r) up sent → HasSaid o None up sent
   text_refused None why r up sent h = inl h.1
   text_refused (Some text) why r up sent h = inr h
 
@@ -117,7 +118,7 @@ module _ {I O : Type 0} (o : link_out.Ghosts O) where
   still None = tt
   still (Some end) = (record { id = refl; lower = refl; inward = refl }, inl refl)
 
-  still_as : (below passed : Option (Conn I O)) → passed ≡ below → MirrorSays o None below passed
+  pub still_as : (below passed : Option (Conn I O)) → passed ≡ below → MirrorSays o None below passed
   still_as below passed same = subst (λ (x : Option (Conn I O)). MirrorSays o None below x) (sym same) (still below)
 
   goes_none : (call : Option ReplicaEvent) (forwards : Bool) (below passed : Option (Conn I O)) → forwards ≡ false → MirrorSays o None below passed → MirrorSays o (passed_text call forwards) below passed
@@ -274,7 +275,7 @@ fine_memory : (d : Done) → IsFine d → d ≢ done.Memory
 fine_memory d ok is = subst IsFine is ok
 
 module _ {I O : Type 0} (o : link_out.Ghosts O) where
-  mirror_sends : (text : Option (List ℕ)) (shut : Bool) (old passed mid new : Option (Conn I O)) → MirrorSays o text old passed → ShutsMirror o shut passed mid → ShutsMirror o false mid new → MirrorSends o text shut old new
+  pub mirror_sends : (text : Option (List ℕ)) (shut : Bool) (old passed mid new : Option (Conn I O)) → MirrorSays o text old passed → ShutsMirror o shut passed mid → ShutsMirror o false mid new → MirrorSends o text shut old new
   mirror_sends text shut None None None None a b c = tt
   mirror_sends text shut None None None (Some new) a b c = absurd c
   mirror_sends text shut None None (Some mid) new a b c = absurd b

@@ -1,16 +1,18 @@
 -- What the events of a member make of roads, book and member that show a world: what shows the world after the event.
-use Rattle.std.specs.Prelude.{◌≡◌, ℕ, Bool, true, false, Option, Some, Result, Ok, Err}
+use Rattle.std.specs.Prelude.{◌≡◌, ℕ, Bool, true, false, Option, Some, None, Result, Ok, Err}
 use Rattle.hd_base.specs.declared.numbers.ConnId.{ConnId}
 use Rattle.hd_base.specs.declared.files.Files as files
 use Rattle.hd_base.specs.declared.links.LinkIn as link_in
 use Rattle.hd_base.specs.declared.links.LinkOut as link_out
 use Rattle.hd_base.specs.declared.roads.Roads as roads
+use Rattle.hd_base.specs.Faults.{FaultsIncreased}
 use Rattle.pipe_member.specs.ReplicaFiles.BookState.{BookState}
 use Rattle.pipe_member.specs.MemberCore.Turn.{Turn}
 use Rattle.pipe_member.specs.MemberCore.Steps.{ready_turn_at}
 use Rattle.pipe_member.specs.declared.member.Member.{Member}
 use Rattle.pipe_member.specs.Steps.{is_asked}
 use Rattle.road_traffic.specs.Showing.{Net}
+use Rattle.world_texts.specs.World.Delivery.TheVariants as delivery
 use Rattle.world_texts.specs.World.Event.{Event}
 use Rattle.world_texts.specs.World.Event.TheVariants as event
 use Rattle.world_texts.specs.World.Parts.{ack, response, FullMember}
@@ -20,10 +22,13 @@ use Rattle.world_texts.specs.World.Nodes.{block_of, replica_at, pending_at, take
 use Rattle.world_texts.specs.World.Events.{happens}
 use Rattle.world_texts.specs.WorldNets.Drawn.{ComesDown, ComesUp, HearsMirror}
 use Rattle.member_events.specs.declared.faults.MemberFault.{MemberFault}
-use Rattle.member_events.specs.Faults.{IsCaused}
+use Rattle.member_events.specs.declared.steps.Downed.{Downed}
+use Rattle.member_events.specs.declared.steps.Downed.TheVariants as downed
+use Rattle.member_events.specs.Faults.{IsCaused, IsLinkCaused}
 use Rattle.world_texts.specs.Texts.{SpellsText}
 use Rattle.member_events.specs.Texts.{SpellUp, IsPacketNext}
 use Rattle.member_events.specs.Showing.{MemberStands, MemberLeft}
+use Rattle.member_events.specs.Writes.{TellsGrowth, TellsBreak}
 
 -- How an event of a member at a connection ends: what is left shows the world after it, or a fault has its cause.
 abbrev pub EventEnds : {F R I O : Type 0} → files.Ghosts F → roads.Ghosts R I O → link_in.Ghosts I →
@@ -60,13 +65,37 @@ pub record CanDown (w : World) (conn : ConnId) (answered : Bool) (full : FullMem
   pub packets : IsPacketNext x
   pub spelled : SpellUp (happens w (event.Down conn answered)) conn.0
 
+-- The event was done.
+pub record DownDone {F R I O : Type 0} (f : files.Ghosts F) (r : roads.Ghosts R I O) (i : link_in.Ghosts I)
+    (o : link_out.Ghosts O) (w : World) (net : Net) (v : World) (c : ℕ) (full : FullMember) (book book' : BookState F)
+    (road' : R) (left : Option (Member I O)) : Type 0 where
+  pub is_left : MemberLeft r i o w net v c full book' road' left
+  pub told : TellsGrowth f w c book book'
+
+-- A call on the replica's files failed: it is another event, and the member has shut.
+pub record DownBroke {F R I O : Type 0} (f : files.Ghosts F) (r : roads.Ghosts R I O) (i : link_in.Ghosts I)
+    (o : link_out.Ghosts O) (w : World) (net : Net) (v : World) (c : ℕ) (full : FullMember) (book book' : BookState F)
+    (road' : R) : Type 0 where
+  pub is_left : MemberLeft r i o w net v c full book' road' None
+  pub rose : FaultsIncreased (f.faults book.drawer) (f.faults book'.drawer)
+  pub told : TellsBreak f w c book book'
+
+abbrev pub DownEnds : {F R I O : Type 0} → files.Ghosts F → roads.Ghosts R I O → link_in.Ghosts I →
+    link_out.Ghosts O → World → Net → ConnId → Bool → FullMember → BookState F → BookState F → R → R →
+    Result (Downed I O) MemberFault → Type 0
+DownEnds f r i o w net conn answered full book book' road road' (Ok (downed.Done left)) =
+    DownDone f r i o w net (happens w (event.Down conn answered)) conn.0 full book book' road' left
+DownEnds f r i o w net conn answered full book book' road road' (Ok downed.Broke) =
+    DownBroke f r i o w net (happens w (event.Fault (delivery.Down conn))) conn.0 full book book' road'
+DownEnds f r i o w net conn answered full book book' road road' (Err why) =
+    IsLinkCaused r conn.0 full.mirror road road' why
+
 abbrev pub DownShows : {F R I O : Type 0} → files.Ghosts F → roads.Ghosts R I O → link_in.Ghosts I →
-    link_out.Ghosts O → Member I O → BookState F → BookState F → R → R → Result (Option (Member I O)) MemberFault →
-    Type 0
+    link_out.Ghosts O → Member I O → BookState F → BookState F → R → R → Result (Downed I O) MemberFault → Type 0
 DownShows f r i o m book book' road road' result =
     (w : World) (net : Net) (conn : ConnId) (answered : Bool) (full : FullMember) (x : Next) →
     MemberStands r i o w net conn.0 full book m road → CanDown w conn answered full x
-    → EventEnds f r i o w net (event.Down conn answered) conn.0 full book book' road road' result
+    → DownEnds f r i o w net conn answered full book book' road road' result
 
 -- UP
 

@@ -33,3 +33,10 @@ IsCaused f r c mirror book book' road road' fault.RoadsFailed = FaultsIncreased 
 IsCaused f r c mirror book book' road road' fault.FilesFailed =
     FaultsIncreased (f.faults book.drawer) (f.faults book'.drawer)
 IsCaused f r c mirror book book' road road' fault.Memory = Unit {0}
+
+-- The same of an event in which a failed call on files is no fault.
+abbrev pub IsLinkCaused : {R I O : Type 0} → roads.Ghosts R I O → ℕ → Option ℕ → R → R → MemberFault → Type 0
+IsLinkCaused r c mirror road road' fault.LinkFailed = HasRisen (r.risen road') c mirror
+IsLinkCaused r c mirror road road' fault.RoadsFailed = FaultsIncreased (r.faults road) (r.faults road')
+IsLinkCaused r c mirror road road' fault.FilesFailed = ⊥
+IsLinkCaused r c mirror road road' fault.Memory = Unit {0}

@@ -17,3 +17,4 @@ pub mod RequestRefusals
 pub mod World
 pub mod WorldNets
 pub mod WorldTexts
+pub mod Writes

@@ -3,10 +3,11 @@
 ghost use Rattle.std.specs.Prelude.{IfOk, IfSome};
 ghost use Rattle.pipe_member.specs.Exchanges.{AreKnown};
 ghost use Rattle.member_events.specs.Roads.{RoadsPass};
+ghost use Rattle.member_events.specs.Steps.{member_left};
 ghost use Rattle.member_events.specs.Events.{ReadyShows, DownShows, UpShows};
 
 use crate::faults::MemberFault;
-use crate::steps::{exchanged, lost, placed};
+use crate::steps::{Downed, exchanged, lost, placed, placed_down};
 use hd_base::{ConnId, Files, LinkIn, LinkOut, Roads};
 use pipe_member::{Looked, Member, ReplicaBook};
 use std::alloc::Global;
@@ -29,17 +30,17 @@ pub fn member_ready<I: LinkIn, O: LinkOut, R: Roads<Inward = I, Outward = O>, F:
     placed(alloc, roads, member, stepped)
 }
 
-/// A member takes what stands next from above.
+/// A member takes what stands next from above. Where the replica grows, bytes are written to its files.
 pub fn member_down<I: LinkIn, O: LinkOut, R: Roads<Inward = I, Outward = O>, F: Files>(
     alloc: Global,
     roads: &mut R,
     book: &mut ReplicaBook<F>,
     member: Member<I, O>,
-) -> Result<Option<Member<I, O>>, MemberFault>
+) -> Result<Downed<I, O>, MemberFault>
     requires { AreKnown (R.plain roads.old) member }
     ensures shows { DownShows F.Files R.Roads I.LinkIn O.LinkOut member book.old book.new roads.old roads.new result }
     ensures pass { RoadsPass R.Roads roads.old roads.new }
-    ensures known { IfOk result (λ left. IfSome left (AreKnown (R.plain roads.new))) }
+    ensures known { IfOk result (λ left. IfSome (member_left left) (AreKnown (R.plain roads.new))) }
 {
     let conn = member.conn();
     let _kept = book.replica();
@@ -48,7 +49,7 @@ pub fn member_down<I: LinkIn, O: LinkOut, R: Roads<Inward = I, Outward = O>, F: 
     if member.knows_mirror_end() {
         return Err(lost(alloc, roads, member));
     }
-    placed(alloc, roads, member, stepped)
+    placed_down(alloc, roads, member, stepped)
 }
 
 /// A member takes what stands next on this connection, the one to its mirror.

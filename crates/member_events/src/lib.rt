@@ -13,4 +13,5 @@ pub use events::{member_down, member_ready, mirror_up};
 pub use faults::MemberFault;
 pub use joining::{Joined, MirrorDial, join};
 pub use pipe_member::{Looked, Member, ReplicaBook};
+pub use steps::Downed;
 pub use world_texts::starts_are_nets;

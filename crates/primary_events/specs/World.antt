@@ -8,6 +8,7 @@ pub use Rattle.world.specs.Parts
 pub use Rattle.world.specs.Primaries
 pub use Rattle.world.specs.Worlds
 pub use Rattle.world.specs.declared.events.Caller
+pub use Rattle.world.specs.declared.events.Delivery
 pub use Rattle.world.specs.declared.events.Event
 pub use Rattle.world.specs.declared.events.OwnStep
 pub use Rattle.world.specs.declared.events.TakenCommand

@@ -2,7 +2,7 @@
 use Rattle.std.proofs.Common.{◌∙◌, rules, Some, Ok, subst, sym}
 use Rattle.hd_base.specs.declared.numbers.ConnId.{ConnId}
 use Rattle.pipe_member.specs.Exchanges.{AreKnown, ExchangesBoth}
-use Rattle.member_events.proofs.DownEvents.{down_failed, down_lost_shows, down_shows}
+use Rattle.member_events.proofs.DownEnds.{down_failed, down_lost_shows, down_shows}
 use Rattle.member_events.proofs.KnownLaws.{exchanged_known, known_same, down_same}
 use Rattle.member_events.proofs.events.member_down.Goals as goal
 
@@ -16,8 +16,8 @@ lost-requires g c =
     (exchanged_known g.R.Roads g.I.LinkIn g.O.LinkOut (Some c.conn-conn.result) c.args.member c.in_ok-member.member c.args.roads.now c.exchanged.new.roads c.in_ok-member.ensures.ends c.requires) in
     (first_of (assumption c.type_bounds.send-I, search rules), (first_of (assumption c.type_bounds.send-O, search rules), k))
 
-pub placed-requires : goal.placed-requires
-placed-requires g c =
+pub placed_down-requires : goal.placed_down-requires
+placed_down-requires g c =
     let k : AreKnown (g.R.Roads.plain c.exchanged.new.roads) c.down-stepped.new.self = known_same (g.R.Roads.plain c.exchanged.new.roads) c.in_ok-member.member c.down-stepped.new.self
     (down_same g.F.Files g.I.LinkIn g.O.LinkOut c.in_ok-member.member.stage c.in_ok-member.member c.down-stepped.new.self c.args.book.now c.down-stepped.new.book c.down-stepped.result c.down-stepped.ensures)
     (exchanged_known g.R.Roads g.I.LinkIn g.O.LinkOut (Some c.conn-conn.result) c.args.member c.in_ok-member.member c.args.roads.now c.exchanged.new.roads c.in_ok-member.ensures.ends c.requires) in
@@ -34,5 +34,5 @@ pub returns-clause-shows : goal.returns-clause-shows
 returns-clause-shows g c =
     let ex : ExchangesBoth g.R.Roads g.I.LinkIn g.O.LinkOut (Some c.args.member.upstream.id) c.args.member c.in_ok-member.member c.args.roads.now c.exchanged.new.roads (Ok tt) =
     subst (λ (x : ConnId). ExchangesBoth g.R.Roads g.I.LinkIn g.O.LinkOut (Some x) c.args.member c.in_ok-member.member c.args.roads.now c.exchanged.new.roads (Ok tt)) c.conn-conn.ensures c.in_ok-member.ensures.ends in
-    down_shows g.F.Files g.R.Roads g.I.LinkIn g.O.LinkOut c.args.member c.in_ok-member.member c.down-stepped.new.self c.args.book.now c.down-stepped.new.book c.down-stepped.result c.placed.result c.args.roads.now c.exchanged.new.roads c.placed.new.roads
-    ex c.down-stepped.ensures (sym c.knows_mirror_end.ensures ∙ c.if-knows_mirror_end.false) c.replica-kept.ensures.kept.known c.placed.ensures.ends
+    down_shows g.F.Files g.R.Roads g.I.LinkIn g.O.LinkOut c.args.member c.in_ok-member.member c.down-stepped.new.self c.args.book.now c.down-stepped.new.book c.down-stepped.result c.placed_down.result c.args.roads.now c.exchanged.new.roads c.placed_down.new.roads
+    ex c.down-stepped.ensures (sym c.knows_mirror_end.ensures ∙ c.if-knows_mirror_end.false) c.replica-kept.ensures.kept c.placed_down.ensures.ends
