@@ -1,5 +1,5 @@
 -- What a restart finds of one book.
-use Rattle.std.proofs.Common.{◌≡◌, inl, inr, ℕ, Bool, true, false, cond, List, take, Option, Some, None, IfSome, refl, sym, ap, subst, ◌∙◌, arith}
+use Rattle.std.proofs.Common.{◌≡◌, inl, inr, ℕ, Bool, true, false, cond, List, take, Option, Some, None, IfSome, IsSome, refl, sym, ap, subst, ◌∙◌, arith}
 use Rattle.std.specs.Prelude.{if◌then◌else◌}
 use Rattle.std.proofs.lemmas.List.{length-take-le}
 use Rattle.hd_base.specs.FileMaps.{FileMap}
@@ -15,6 +15,7 @@ use Rattle.replica_model.specs.Plans.{HoldsInfo, placed_under, placement_of}
 use Rattle.replica_model.specs.Rows.{FullReplica}
 use Rattle.replica_files.specs.declared.book_state.BookState.{BookState}
 use Rattle.replica_files.specs.Books.{IsBookOf, replica_of}
+use Rattle.replica_files.specs.Breaks.{HoldsWhole}
 use Rattle.restart_scan.specs.declared.found.Seen.{Seen}
 use Rattle.restart_scan.specs.Blocks.{ScansBlock, ScansPair, state_of}
 use Rattle.restart_scan.specs.Laws.{FindsBlock, finds, finds_none, HasNumbers}
@@ -105,6 +106,21 @@ module _ {D : Type 0} (d : files.Ghosts D) where
           ∙ sym (ap (λ (o : Option ReplicaInfo). files_of (replica_of x).known.block.0 (placed_under o (replica_of x).bytes)) e) in
           whole_replicas_are_found (replica_of x) found book.held.full numbers (subst (λ (n : FileMap). FindsBlock (block_of x) n found) placed f)
 
+  -- A BOOK WHOSE FILES HOLD IT
+
+  spared_found : (x : BookState D) (m : FileMap) (found : Option Found) → IsBookOf d x → HasNumbers (replica_of x) → d.files x.drawer ≡ Some m → FindsBlock (block_of x) m found
+      → IsSome (replica_of x).known.info → HoldsWhole (d.files x.drawer) (replica_of x) → found ≡ found_whole (replica_of x).known.info (replica_of x).bytes
+  spared_found x m found book numbers told f some whole =
+      by (replica_of x).known.info refl some
+      (subst (λ (o : Option FileMap). HoldsInfo o (replica_of x).known.block.0 (replica_of x).known.info false (replica_of x).bytes) told whole)
+    where
+      by : (o : Option ReplicaInfo) → (replica_of x).known.info ≡ o → IsSome o → HoldsInfo (Some m) (replica_of x).known.block.0 o false (replica_of x).bytes → found ≡ found_whole (replica_of x).known.info (replica_of x).bytes
+      by None e none holds = absurd (true_false (sym none))
+      by (Some h) e there holds =
+          let placed : m ≡ files_of (replica_of x).known.block.0 (placement_of (replica_of x)) =
+          holds ∙ sym (ap (λ (o : Option ReplicaInfo). files_of (replica_of x).known.block.0 (placed_under o (replica_of x).bytes)) e) in
+          whole_replicas_are_found (replica_of x) found book.held.full numbers (subst (λ (n : FileMap). FindsBlock (block_of x) n found) placed f)
+
   -- IN THE WORLD
 
   may_find_broken : (x : BookState D) (broke : Break) (m left : FileMap) (y : Scan) (found : Option Found) → d.files x.drawer ≡ Some m → ScansBlock (block_of x) m left y → Shows left y.seen found → BrokeIn d x broke
@@ -167,6 +183,7 @@ module _ {D : Type 0} (d : files.Ghosts D) where
     finds = finds_told x m i.found told (finds_shown (block_of x) m left sc i.found scans i.shows);
     is = i.is;
     whole = λ u. whole_found_so x m i.found book numbers u told (finds_shown (block_of x) m left sc i.found scans i.shows);
+    spared = λ there holds. spared_found x m i.found book numbers told (finds_shown (block_of x) m left sc i.found scans i.shows) there holds;
     allowed = λ broke stands. may_find_so x broke m left sc i.found book numbers told scans i.shows stands;
     in_world = λ broke stands. i.is ∙ restarted_so (block_of x).0 (replica_of x) broke i.found (may_find_so x broke m left sc i.found book numbers told scans i.shows stands);
     unbroken = record {

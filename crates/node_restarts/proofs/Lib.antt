@@ -8,5 +8,6 @@ pub mod FoundLemmas
 pub mod SeekingLemmas
 pub mod RestartingLemmas
 pub mod LawLemmas
+pub mod WholenessLemmas
 pub mod NodeOpening
 pub mod PlayNodes

@@ -4,6 +4,7 @@ pub mod Making
 pub mod Lending
 pub mod Seeking
 pub mod Restarting
+pub mod Wholeness
 pub mod Laws
 pub mod MemberEvents
 pub mod NodeOpening

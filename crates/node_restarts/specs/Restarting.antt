@@ -6,6 +6,7 @@ use Rattle.hd_base.specs.declared.numbers.BlockId.{BlockId}
 use Rattle.hd_base.specs.declared.shelves.Shelf as shelves
 use Rattle.replica_core.specs.declared.info.ReplicaInfo.{ReplicaInfo}
 use Rattle.replica_files.specs.Books.{replica_of}
+use Rattle.replica_files.specs.Breaks.{HoldsWhole}
 use Rattle.replica_files.specs.declared.book_state.BookState.{BookState}
 use Rattle.replica_model.specs.Found.{Found, found_whole}
 use Rattle.restart_scan.specs.Laws.{FindsBlock}
@@ -50,12 +51,15 @@ pub record TellAll {S D : Type 0} (s : shelves.Ghosts S D) (d : files.Ghosts D) 
 -- AFTER IT
 
 -- A book after a restart, by that of its block before it: the replica is what is found of the old one's files. Of one
--- that isn't broken just what it held is found, and of one that broke in an event what the world's model says of it.
+-- that isn't broken just what it held is found, of one whose files hold it though it broke what it held too, and of any
+-- other that broke in an event what the world's model says of it.
 pub record IsRestarted {D : Type 0} (d : files.Ghosts D) (old new : BookState D) : Type 0 where
   pub found : Option Found
   pub finds : IfSome (d.files old.drawer) (λ m. FindsBlock (block_of old) m found)
   pub is : replica_of new ≡ replica_found (block_of old).0 found
   pub whole : IsUnbroken d old → found ≡ found_whole (replica_of old).known.info (replica_of old).bytes
+  pub spared : IsSome (replica_of old).known.info → HoldsWhole (d.files old.drawer) (replica_of old) →
+      found ≡ found_whole (replica_of old).known.info (replica_of old).bytes
   pub allowed : (broke : Option Break) → StandsAs d old broke → may_find (replica_of old) broke found ≡ true
   pub in_world : (broke : Option Break) → StandsAs d old broke →
       replica_of new ≡ restarted (block_of old).0 (replica_of old) broke found

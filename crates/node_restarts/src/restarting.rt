@@ -15,6 +15,21 @@ use replica_files::ReplicaBook;
 use restart_scan::scan;
 use std::alloc::Global;
 
+/// Closes a node's books, so that none of the blocks is lent, and no other that wasn't before. Each block stands once and
+/// is lent by the shelf, and each has a book, at its place.
+pub fn give_up_books<S: Shelf>(
+    shelf: &mut S,
+    blocks: &[BlockId],
+    books: Vec<ReplicaBook<S::Drawer>>,
+)
+    requires lent { AreLentOut S.Shelf shelf.old blocks.now }
+    requires count { length books.items ≡ length blocks.now }
+    ensures given_up { AreGivenUp S.Shelf blocks.now shelf.old shelf.new }
+    ensures carried { CarriesFaults (S.faults shelf.old) (faults_of S.Drawer.Files books.items) (S.faults shelf.new) }
+{
+    close_books(shelf, blocks, books);
+}
+
 /// Restarts a node over its shelf, between two events: its books are closed, the shelf is scanned, and the files of
 /// each block are lent again, over which the book is made of what was found of it. Of a replica that was absent, and
 /// isn't broken, nothing is looked for: it is absent again, and what its block has of files are strays, as before. Each

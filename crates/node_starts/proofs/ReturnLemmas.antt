@@ -1,5 +1,5 @@
 -- The books that a restart makes are those of the world after it.
-use Rattle.std.proofs.Common.{◌≡◌, ◌<◌, ℕ, Bool, true, false, List, [], length, Option, Some, None, refl, sym, ap, subst, ◌∙◌}
+use Rattle.std.proofs.Common.{◌≡◌, ◌<◌, ℕ, Bool, true, false, List, [], length, Option, Some, None, IsSome, refl, sym, ap, subst, ◌∙◌}
 use Rattle.std.specs.Prelude.{◌||◌, slice_get, option_map, option_and_then, is_some, if◌then◌else◌, Result, Ok, Err, OnOk, OnErr}
 use Rattle.hd_base.specs.declared.files.Files as files
 use Rattle.hd_base.specs.declared.links.LinkIn as link_in
@@ -11,6 +11,7 @@ use Rattle.hd_base.specs.declared.shelves.Shelf as shelves
 use Rattle.replica_core.specs.declared.info.ReplicaInfo.{ReplicaInfo}
 use Rattle.node_restarts.specs.ReplicaFiles.Books.{replica_of}
 use Rattle.node_restarts.specs.ReplicaFiles.BookState.{BookState}
+use Rattle.node_restarts.specs.ReplicaFiles.Breaks.{HoldsWhole}
 use Rattle.replica_model.specs.Found.{Found, found_whole}
 use Rattle.replica_model.specs.Rows.{FullReplica}
 use Rattle.road_traffic.specs.Showing.{Net}
@@ -23,10 +24,10 @@ use Rattle.node_restarts.specs.PlayNodes.Showing.{NodesStand}
 use Rattle.node_restarts.proofs.PlayNodes.Tables.{element}
 use Rattle.node_restarts.specs.NodeOpening.Closing.{block_of, AreLentOut, AreOf}
 use Rattle.node_restarts.proofs.NodeOpening.CloseLemmas.{block_at, length_blocks}
-use Rattle.node_restarts.specs.Restarting.{TellAll, HasNoPair, StandsAgain}
+use Rattle.node_restarts.specs.Restarting.{TellAll, HasNoPair, IsRestarted, StandsAgain}
 use Rattle.node_restarts.specs.Seeking.{is_sought}
 use Rattle.node_starts.specs.Books.{AreBooksOf, HasAllBooks, NodeTells, BooksReturn, StartsOver}
-use Rattle.world_breaks.specs.Breaks.{AllUnbroken}
+use Rattle.world_breaks.specs.Breaks.{IsWholeAgain, AllWholeAgain}
 use Rattle.node_starts.specs.Starting.{Listens, StartShows}
 use Rattle.node_starts.specs.declared.faults.StartFault.{StartFault}
 use Rattle.node_starts.proofs.StartLemmas.{AreFound, HasAsMany, same_some, within, is_some_within, sizes_kept, start_left}
@@ -44,11 +45,11 @@ unbroken_whole : (b : ℕ) (r : FullReplica) → restarted b r None None ≡ rep
 unfolding restarted may_find
 unbroken_whole b r = ap (replica_found b) (else_whole (found_whole r.known.info r.bytes))
 
--- Of a replica that isn't broken, and of which nothing is said, the world's restart finds all.
-restarted_whole : (b : ℕ) (r : FullReplica) (broke : Option Break) → broke ≡ None → restarted b r broke None ≡ replica_found b (found_whole r.known.info r.bytes)
-restarted_whole b r broke e = ap (λ (o : Option Break). restarted b r o None) e ∙ unbroken_whole b r
-
 -- ONE BOOK
+
+-- the replica is there again, with all that it held
+abbrev all_found : {D : Type 0} → BookState D → BookState D → Type 0
+all_found x y = replica_of y ≡ replica_found (block_of x).0 (found_whole (replica_of x).known.info (replica_of x).bytes)
 
 module _ {D : Type 0} (d : files.Ghosts D) (x y : BookState D) (whole : (replica_of x).known.is_broken ≡ false) where
   seeks : (o : Option ReplicaInfo) → (replica_of x).known.info ≡ o → is_some o ≡ is_sought x
@@ -66,16 +67,35 @@ module _ {D : Type 0} (d : files.Ghosts D) (x y : BookState D) (whole : (replica
   absent None bytes e = refl
   absent (Some h) bytes e = absurd (true_false e)
 
-  abbrev all_found : Type 0
-  all_found = replica_of y ≡ replica_found (block_of x).0 (found_whole (replica_of x).known.info (replica_of x).bytes)
-
   -- Of a book that isn't broken all is found.
-  pub again_whole : StandsAgain d (is_sought x) x y → all_found
+  pub again_whole : StandsAgain d (is_sought x) x y → all_found x y
   again_whole h = by (is_sought x) refl h
     where
-      by : (t : Bool) → is_sought x ≡ t → StandsAgain d t x y → all_found
+      by : (t : Bool) → is_sought x ≡ t → StandsAgain d t x y → all_found x y
       by true so r = r.is ∙ ap (replica_found (block_of x).0) (r.whole (record { whole = whole; no_pair = no_pair (replica_of x).known.info (seeks (replica_of x).known.info refl ∙ so) }))
       by false so r = r ∙ sym (ap (replica_found (block_of x).0) (absent (replica_of x).known.info (replica_of x).bytes (seeks (replica_of x).known.info refl ∙ so)))
+
+module _ {D : Type 0} (d : files.Ghosts D) (x y : BookState D) where
+  -- So it is of a book that broke, and whose files hold its replica.
+  again_spared : IsSome (replica_of x).known.info → HoldsWhole (d.files x.drawer) (replica_of x) → StandsAgain d (is_sought x) x y → all_found x y
+  again_spared there holds h =
+      let so : is_sought x ≡ true = ap (λ (t : Bool). t || (replica_of x).known.is_broken) there in
+      let r : IsRestarted d x y = subst (λ (t : Bool). StandsAgain d t x y) so h in
+      r.is ∙ ap (replica_found (block_of x).0) (r.spared there holds)
+
+  -- What is found of a book's replica is what the world's restart makes of it.
+  again_shown : (b : ℕ) (r : FullReplica) (broke : Option Break) → (block_of x).0 ≡ b → replica_of x ≡ r → IsWholeAgain b r broke → HoldsWhole (d.files x.drawer) (replica_of x) → StandsAgain d (is_sought x) x y
+      → replica_of y ≡ restarted b r broke None
+  again_shown b r broke of shown whole holds h = by broke whole
+    where
+      found : all_found x y → replica_of y ≡ replica_found b (found_whole r.known.info r.bytes)
+      found e =
+          e ∙ (ap (λ (n : ℕ). replica_found n (found_whole (replica_of x).known.info (replica_of x).bytes)) of
+          ∙ ap (λ (q : FullReplica). replica_found b (found_whole q.known.info q.bytes)) shown)
+
+      by : (o : Option Break) → IsWholeAgain b r o → replica_of y ≡ restarted b r o None
+      by None u = found (again_whole d x y (ap (λ (q : FullReplica). q.known.is_broken) shown ∙ u.whole) h) ∙ sym (unbroken_whole b r)
+      by (Some z) u = found (again_spared (subst (λ (q : FullReplica). IsSome q.known.info) (sym shown) u.there) holds h) ∙ sym u.found
 
 -- ALL BOOKS
 
@@ -128,22 +148,18 @@ module _ {S D I O : Type 0} (s : shelves.Ghosts S D) (d : files.Ghosts D) (node 
     told = told_again;
   }
 
-  module _ {R : Type 0} (r : roads.Ghosts R I O) (i : link_in.Ghosts I) (o : link_out.Ghosts O) (w : World) (net : Net) (road : R) (stands : NodesStand r i o w net road old) (unbroken : AllUnbroken w) (tells : NodeTells s d node shelf old) where
+  module _ {R : Type 0} (r : roads.Ghosts R I O) (i : link_in.Ghosts I) (o : link_out.Ghosts O) (w : World) (net : Net) (road : R) (stands : NodesStand r i o w net road old) (again : AllWholeAgain w) (tells : NodeTells s d node shelf old) where
     each_found : (place : ℕ) (block : BlockId) (book : BookState D) → slice_get old.blocks.items place ≡ Some block → slice_get back.made place ≡ Some book
         → replica_of book ≡ restarted block.0 (w.replicas node.0 block.0) (w.breaks node.0 block.0) None
     each_found place block book at at' =
         let p = element all.books place (subst (λ (n : ℕ). place < n) (sym all.count) (within old.blocks.items place block at)) in
         let x = p.0 in
+        let had : slice_get back.had place ≡ Some x = ap (λ (l : List (BookState D)). slice_get l place) had_is ∙ p.1 in
         let of : block_of x ≡ block = all.of_blocks place block x at p.1 in
-        let u = unbroken node.0 block.0 in
         let shown : replica_of x ≡ w.replicas node.0 block.0 =
         stands.nodes_are.books node.0 place block x at (books_in (slice_get old.nodes.items node.0) all.books place all.are ∙ p.1) in
-        let whole : (replica_of x).known.is_broken ≡ false = ap (λ (q : FullReplica). q.known.is_broken) shown ∙ u.whole in
-        let again = back.restarted.each (tells back.had back.had_are) place x book (ap (λ (l : List (BookState D)). slice_get l place) had_is ∙ p.1) at' in
-        again_whole d x book whole again
-        ∙ (ap (λ (q : BlockId). replica_found q.0 (found_whole (replica_of x).known.info (replica_of x).bytes)) of
-        ∙ (ap (λ (q : FullReplica). replica_found block.0 (found_whole q.known.info q.bytes)) shown
-        ∙ sym (restarted_whole block.0 (w.replicas node.0 block.0) (w.breaks node.0 block.0) u.none)))
+        again_shown d x book block.0 (w.replicas node.0 block.0) (w.breaks node.0 block.0) (ap (λ (q : BlockId). q.0) of) shown (again node.0 block.0) (back.whole place x had)
+        (back.restarted.each (tells back.had back.had_are) place x book had at')
 
     pub are_found : AreFound w node [] old back.made
     are_found = record {
@@ -154,8 +170,8 @@ module _ {S D I O : Type 0} (s : shelves.Ghosts S D) (d : files.Ghosts D) (node 
   -- Where the roads listen, all shows the world after the start.
   pub start_shows : {R : Type 0} (r : roads.Ghosts R I O) (i : link_in.Ghosts I) (o : link_out.Ghosts O) (road road' : R) (result : Result (Unit {0}) StartFault) → Listens r node.0 road road' result
       → OnOk result (StartShows s d r i o node shelf old new road road')
-  start_shows r i o road road' (Ok u) listens = λ w net stands can unbroken tells.
-      start_left r i o node back.made [] w net old new road road' stands can (are_found r i o w net road stands unbroken tells) (listens net stands.roads_are.shows) back.replaced
+  start_shows r i o road road' (Ok u) listens = λ w net stands can again tells.
+      start_left r i o node back.made [] w net old new road road' stands can (are_found r i o w net road stands again tells) (listens net stands.roads_are.shows) back.replaced
   start_shows r i o road road' (Err why) listens = tt
 
 -- RESULTS

@@ -10,6 +10,7 @@ use Rattle.node_restarts.specs.PlayNodes.Places.{KeepsSizes}
 use Rattle.node_restarts.specs.NodeOpening.Closing.{AreLentOut, AreOf}
 use Rattle.node_restarts.specs.NodeOpening.Shelves.{is_among}
 use Rattle.node_restarts.specs.Restarting.{TellAll, HasRestarted, AreGivenUp}
+use Rattle.node_restarts.specs.Wholeness.{AllHoldWhole}
 
 -- THE BOOKS OF A NODE
 
@@ -44,12 +45,13 @@ pub record IsReplaced {F I O : Type 0} (node : NodeId) (books : List (BookState 
     pub here : AreBooksOf node books new
     pub others : KeepsOthers node old new
 
--- The node has the books that a restart makes, in place of those that it had.
+-- The node has the books that a restart makes, in place of those that it had, whose files held their replicas.
 pub record BooksReturn {S D I O : Type 0} (s : shelves.Ghosts S D) (d : files.Ghosts D) (node : NodeId)
     (shelf shelf' : S) (old new : Nodes D I O) : Type 0 where
   pub had : List (BookState D)
   pub made : List (BookState D)
   pub had_are : AreBooksOf node had old
+  pub whole : AllHoldWhole d had
   pub replaced : IsReplaced node made old new
   pub restarted : HasRestarted s d old.blocks.items had shelf shelf' made
 

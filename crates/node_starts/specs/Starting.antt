@@ -14,7 +14,7 @@ use Rattle.world.specs.Worlds.{World}
 use Rattle.node_restarts.specs.PlayNodes.Nodes.{Nodes}
 use Rattle.node_restarts.specs.PlayNodes.Showing.{NodesStand, NodesLeft}
 use Rattle.node_starts.specs.Books.{NodeTells}
-use Rattle.world_breaks.specs.Breaks.{AllUnbroken}
+use Rattle.world_breaks.specs.Breaks.{AllWholeAgain}
 use Rattle.node_starts.specs.Lives.{IsLived}
 
 -- ROADS
@@ -33,12 +33,12 @@ pub record CanStart (w : World) (node : NodeId) : Type 0 where
   pub stands_still : w.running node.0 ≡ false
   pub lived : IsLived w
 
--- Whatever world they showed in which the node may start and no replica is broken, where the files of the node's books
--- are told: nodes and roads show the world after its restart, of which nothing need be said, and the ends of writers
--- stay.
+-- Whatever world they showed in which the node may start and a restart finds all of each broken replica, where the files
+-- of the node's books are told: nodes and roads show the world after its restart, of which nothing need be said, and the
+-- ends of writers stay.
 abbrev pub StartShows : {S D R I O : Type 0} → shelves.Ghosts S D → files.Ghosts D → roads.Ghosts R I O →
     link_in.Ghosts I → link_out.Ghosts O → NodeId → S → Nodes D I O → Nodes D I O → R → R → Type 0
 StartShows s d r i o node shelf old new road road' =
-    (w : World) (net : Net) → NodesStand r i o w net road old → CanStart w node → AllUnbroken w →
+    (w : World) (net : Net) → NodesStand r i o w net road old → CanStart w node → AllWholeAgain w →
     NodeTells s d node shelf old
     → NodesLeft r i o w net (happens w (event.Restart node [])) road' new

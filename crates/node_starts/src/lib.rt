@@ -9,4 +9,4 @@ pub use faults::StartFault;
 pub use laws::dials_are_of_lives_so_far;
 pub use node_restarts::{OpenFault, close_nodes, open_nodes, opened_nodes_close};
 pub use starting::start_node;
-pub use world_breaks::replicas_are_unbroken_without_faults;
+pub use world_breaks::{refused_writes_leave_replicas_whole, replicas_are_unbroken_without_faults};

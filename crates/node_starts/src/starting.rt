@@ -12,7 +12,7 @@ ghost use Rattle.node_starts.specs.Starting.{Listens, StartShows};
 
 use crate::faults::{StartFault, roads_fault, shelf_fault};
 use hd_base::{Files, LinkIn, LinkOut, NodeId, Roads, Shelf};
-use node_restarts::{Nodes, ReplicaBook, restart_books};
+use node_restarts::{Nodes, ReplicaBook, give_up_books, have_whole_files, restart_books};
 use std::alloc::Global;
 use std::mem;
 
@@ -43,8 +43,8 @@ fn replace_books<F: Files, I: LinkIn, O: LinkOut>(
     mem::replace(&mut nodes.nodes[node.0 as usize].books, books)
 }
 
-/// A node gets the books of what a restart over its shelf finds, in place of those that it had. After a fault it has
-/// none.
+/// A node whose books' files hold their replicas gets the books of what a restart over its shelf finds, in place of those
+/// that it had. After a fault it has none.
 fn restart_node<S: Shelf, I: LinkIn, O: LinkOut>(
     alloc: Global,
     shelf: &mut S,
@@ -60,6 +60,10 @@ fn restart_node<S: Shelf, I: LinkIn, O: LinkOut>(
     ensures never_falls { S.faults shelf.old ≤ S.faults shelf.new }
 {
     let books = replace_books(nodes, node, Vec::new(alloc));
+    if !have_whole_files(&books) {
+        give_up_books(shelf, &nodes.blocks, books);
+        return Err(StartFault::ShelfFailed);
+    }
     match restart_books(alloc, shelf, &nodes.blocks, books) {
         Ok(books) => {
             replace_books(nodes, node, books);
@@ -71,7 +75,8 @@ fn restart_node<S: Shelf, I: LinkIn, O: LinkOut>(
 
 /// Starts a node that doesn't run, between two events: its books are closed, its shelf is scanned, and it has the books
 /// of what is found, at the places of the blocks; and it listens on its port. Before it, the node has a book for each
-/// block, at its place, and the shelf has lent the blocks.
+/// block, at its place, and the shelf has lent the blocks. It doesn't start where the files of a replica that broke needn't
+/// be whole.
 ///
 /// After a fault of the shelf, or for want of memory, the node may have no books, and then none of the blocks is lent;
 /// after one of the roads it has the new books. All else of the nodes is as it was in any case.

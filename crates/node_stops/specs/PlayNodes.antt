@@ -4,6 +4,7 @@ pub use Rattle.play_nodes.specs.Dues
 pub use Rattle.play_nodes.specs.Events
 pub use Rattle.play_nodes.specs.Frames
 pub use Rattle.play_nodes.specs.Places
+pub use Rattle.play_nodes.specs.Refusing
 pub use Rattle.play_nodes.specs.Showing
 pub use Rattle.play_nodes.specs.declared.connections.Connection
 pub use Rattle.play_nodes.specs.declared.connections.Upper
