@@ -149,6 +149,7 @@ module _ (p : PlayState) (commands : ℕ → List Command) (h : Played p command
         record {
           asks = h.asks;
           recoveries = h.recoveries;
+          unarmed = h.unarmed;
           plain = plain;
           quiet = subst IsQuiet (sym (runs-join (start p.nodes) p.events events)) (stays-quiet w p.queues (due.Own b) h.quiet);
           peaceful = all-peaceful p.nodes (p.events ++ events) plain;

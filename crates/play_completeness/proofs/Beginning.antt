@@ -51,6 +51,7 @@ pub opened-played : OpenedArePlayed
 opened-played nodes seed = record {
   asks = refl;
   recoveries = refl;
+  unarmed = λ n. refl;
   plain = tt;
   quiet = start-quiet nodes;
   peaceful = start-peace nodes;
@@ -83,6 +84,7 @@ pub commands-join : CommandsJoin
 commands-join p commands b c h bytes fits = record {
   asks = h.asks;
   recoveries = h.recoveries;
+  unarmed = h.unarmed;
   plain = h.plain;
   quiet = h.quiet;
   peaceful = h.peaceful;

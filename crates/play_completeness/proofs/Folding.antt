@@ -1,6 +1,6 @@
 -- What each thing that is due keeps, draws and named events keep: so a play stays as it should be in them, as long as it
 -- does where what is due of a writer happens.
-use Rattle.std.proofs.Common.{◌≡◌, ℕ, zero, suc, Bool, true, false, List, [], ◌∷◌, length, slice_get, Option, Some, None, IfSome, refl, ◌∙◌, ap}
+use Rattle.std.proofs.Common.{◌≡◌, ℕ, zero, suc, Bool, true, false, List, [], ◌∷◌, length, slice_get, Option, Some, None, IfSome, refl, sym, ◌∙◌, ap, subst}
 use Rattle.std.specs.Prelude.{◌%◌, if◌then◌else◌}
 use Rattle.hd_base.specs.declared.numbers.BlockId.{BlockId}
 use Rattle.rand_pcg.specs.Pcg.{pcg32}
@@ -9,6 +9,7 @@ use Rattle.play_model.specs.declared.dues.Due.{Due}
 use Rattle.play_model.specs.declared.dues.Due.TheVariants as due
 use Rattle.play_model.specs.States.{PlayState, world_of}
 use Rattle.play_model.specs.Dues.{is_due, dues, after_due}
+use Rattle.play_model.specs.Faults.{befalls}
 use Rattle.play_model.specs.Draws.{drawn, happened, advanced, drawn_from, draw, draws}
 use Rattle.play_model.specs.Laws.{IsListed}
 use Rattle.play_model.specs.Lines.{stepped}
@@ -19,13 +20,18 @@ use Rattle.play_completeness.specs.Played.{Played}
 use Rattle.play_completeness.proofs.Keeping.{conns-keep}
 use Rattle.play_completeness.proofs.OwnFacts.{own-keeps}
 use Rattle.play_completeness.proofs.Plays.{Among, none-asked, none-recovered}
+use Rattle.play_completeness.proofs.Unarmed.{befalls-due}
 
 -- DRAWS
 
-module _ (P : PlayState → Type 0) (happens : (p : PlayState) (d : Due) → P p → is_due (world_of p) p.queues d ≡ true → Among p d → P (after_due p d)) (words : (p : PlayState) → P p → P (advanced p)) where
+module _ (P : PlayState → Type 0) (happens : (p : PlayState) (d : Due) → P p → is_due (world_of p) p.queues d ≡ true → Among p d → P (after_due p d)) (words : (p : PlayState) → P p → P (advanced p)) (unarmed : (p : PlayState) → P p → (n : ℕ) → p.faults n ≡ 0) where
+  -- where no write is to fail
+  befalls-keeps : (p : PlayState) (d : Due) → P p → is_due (world_of p) p.queues d ≡ true → Among p d → P (befalls p d)
+  befalls-keeps p d h is asked = subst P (sym (befalls-due p d (unarmed p h))) (happens p d h is asked)
+
   happened-keeps : (blocks : List ℕ) (p : PlayState) (o : Option Due) → ((d : Due) → o ≡ Some d → IsListed blocks p d) → P p → P (happened p o)
   happened-keeps blocks p None is h = h
-  happened-keeps blocks p (Some d) is h = happens p d h (is d refl).is ((is d refl).asked, (is d refl).recovers)
+  happened-keeps blocks p (Some d) is h = befalls-keeps p d h (is d refl).is ((is d refl).asked, (is d refl).recovers)
 
   -- what is drawn is due
   drawn-is : (blocks : List ℕ) (p : PlayState) (ds : List Due) → dues blocks p ≡ ds → (word : ℕ) (d : Due) → drawn ds word ≡ Some d → IsListed blocks (advanced p) d
@@ -47,8 +53,8 @@ module _ (P : PlayState → Type 0) (happens : (p : PlayState) (d : Due) → P p
   stepped-keeps p None asked h = h
   stepped-keeps p (Some d) asked h = go (is_due (world_of p) p.queues d) refl
     where
-      go : (q : Bool) → is_due (world_of p) p.queues d ≡ q → P (if q then after_due p d else p)
-      go true is = happens p d h is asked
+      go : (q : Bool) → is_due (world_of p) p.queues d ≡ q → P (if q then befalls p d else p)
+      go true is = befalls-keeps p d h is asked
       go false is = h
 
 -- PLAYS
@@ -72,7 +78,7 @@ due-keeps own commands members p (due.Up c) h is asked = conns-keep p commands (
 -- a word that is taken from the generator
 pub advanced-keeps : (commands : ℕ → List Command) (p : PlayState) → PlayedOn p commands → PlayedOn (advanced p) commands
 advanced-keeps commands p h = record {
-  played = record { asks = h.played.asks; recoveries = h.played.recoveries; plain = h.played.plain; quiet = h.played.quiet; peaceful = h.played.peaceful; links = h.played.links; writers = h.played.writers; blocks = h.played.blocks };
+  played = record { asks = h.played.asks; recoveries = h.played.recoveries; unarmed = h.played.unarmed; plain = h.played.plain; quiet = h.played.quiet; peaceful = h.played.peaceful; links = h.played.links; writers = h.played.writers; blocks = h.played.blocks };
   names = record { few = h.names.few; named = h.names.named };
   ruled = h.ruled;
 }

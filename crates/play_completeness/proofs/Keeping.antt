@@ -65,6 +65,7 @@ played-more p commands e h plain k =
     record {
       asks = h.asks;
       recoveries = h.recoveries;
+      unarmed = h.unarmed;
       plain = plain-more p.events e h.plain plain;
       quiet = subst IsQuiet is k.quiet;
       peaceful = subst Peaceful is (happens-peace (world_of p) e plain h.peaceful);

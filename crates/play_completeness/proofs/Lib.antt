@@ -1,3 +1,4 @@
+pub mod Unarmed
 pub mod Plays
 pub mod OwnReplicas
 pub mod PeaceFrame

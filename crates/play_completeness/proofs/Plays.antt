@@ -23,10 +23,11 @@ use Rattle.play_model.specs.declared.asks.ReadAsk.{ReadAsk}
 use Rattle.play_model.specs.declared.dues.Due.{Due}
 use Rattle.play_model.specs.declared.dues.Due.TheVariants as due
 use Rattle.play_model.specs.declared.recoveries.Recovery.{Recovery}
-use Rattle.play_model.specs.States.{PlayState, world_of, opened, ordered, ruled, asked, recovering}
+use Rattle.play_model.specs.States.{PlayState, world_of, opened, ordered, ruled, armed, asked, recovering}
 use Rattle.play_model.specs.Asks.{ask_at}
 use Rattle.play_model.specs.Recoveries.{recovery_at}
 use Rattle.play_model.specs.Dues.{Queues, is_due, dues, own_events, action_of, due_events, after_due}
+use Rattle.play_model.specs.Faults.{befalls}
 use Rattle.play_model.specs.Draws.{drawn, happened, advanced, drawn_from, draw, draws}
 use Rattle.play_scripts.specs.Failures.{is_failure, HaveNoFailures}
 use Rattle.play_scripts.specs.Reads.{is_read, HaveNoReads}
@@ -34,6 +35,7 @@ use Rattle.play_model.specs.Lines.{stepped, step_due, pipeline_conn, cut_at, sto
 use Rattle.play_model.specs.Laws.{AskAmong, RecoveryAmong, IsListed}
 use Rattle.play_model.proofs.ListedLemmas.{listed_due}
 use Rattle.play_completeness.specs.Plain.{ArePlain, PlaysArePlain}
+use Rattle.play_completeness.proofs.Unarmed.{befalls-due}
 
 -- READERS
 
@@ -67,7 +69,7 @@ module _ (Q : PlayState → Type 0) where
     pub advances : (p : PlayState) → Q p → Q (advanced p)
     pub orders : (p : PlayState) (b : ℕ) (c : Command) → Q p → Q (ordered p b c)
     pub rules : (p : PlayState) (b : ℕ) (r : Rule) → Q p → Q (ruled p b r)
-    pub goes : (p : PlayState) (d : Due) → is_due (world_of p) p.queues d ≡ true → Among p d → Q p → Q (after_due p d)
+    pub goes : (p : PlayState) (d : Due) → is_due (world_of p) p.queues d ≡ true → Among p d → Q p → Q (befalls p d)
 
   happened-keeps : Keeps → (blocks : List ℕ) (p : PlayState) (o : Option Due) → ((d : Due) → o ≡ Some d → IsListed blocks p d) → Q p → Q (happened p o)
   happened-keeps k blocks p None due q = q
@@ -91,14 +93,15 @@ module _ (Q : PlayState → Type 0) where
 
   stepped-keeps : Keeps → (p : PlayState) (o : Option Due) → IfSome o (Among p) → Q p → Q (stepped p o)
   stepped-keeps k p None asked q = q
-  stepped-keeps k p (Some d) asked q = if-each Q (is_due (world_of p) p.queues d) (after_due p d) p (λ e. k.goes p d e asked q) (λ _. q)
+  stepped-keeps k p (Some d) asked q = if-each Q (is_due (world_of p) p.queues d) (befalls p d) p (λ e. k.goes p d e asked q) (λ _. q)
 
-  -- What is kept by a cut, by a stop, by a start, and where a line asks to recover.
+  -- What is kept by a cut, by a stop, by a start, and where a line asks to recover, or says that a write is to fail.
   pub record FailuresKeep : Type 0 where
     pub cuts : (p : PlayState) (c : Option ℕ) (down up : ℕ) → Q p → Q (cut_at p c down up)
     pub stops : (p : PlayState) (n : NodeId) → Q p → Q (stop_at p n)
     pub starts : (p : PlayState) (n : NodeId) → Q p → Q (start_at p n)
     pub recoveries : (p : PlayState) (r : Recovery) → Q p → Q (recovering p r)
+    pub arms : (p : PlayState) (node nth : ℕ) → Q p → Q (armed p node nth)
 
   -- What is kept where a line asks to read.
   abbrev pub ReadsKeep : Type 0
@@ -143,7 +146,7 @@ module _ (Q : PlayState → Type 0) where
   line-keeps k blocks number (line.Read b n from count) p new kept s q = subst Q (sym s) (kept.reads refl p (ask_at (world_of p) number b n from count) q)
   line-keeps k blocks number (line.Recover b n members) p new kept s q = subst Q (sym s) ((kept.fails refl).recoveries p (recovery_at (world_of p) number b n members) q)
   line-keeps k blocks number (line.Cut b place down up) p new kept s q = subst Q (sym s) ((kept.fails refl).cuts p (pipeline_conn (world_of p) b.0 place) down up q)
-  line-keeps k blocks number (line.Fault n nth) p new kept s q = subst Q (sym s) q
+  line-keeps k blocks number (line.Fault n nth) p new kept s q = subst Q (sym s) ((kept.fails refl).arms p n.0 nth q)
   line-keeps k blocks number (line.Stop n) p new kept s q = subst Q (sym s) ((kept.fails refl).stops p n q)
   line-keeps k blocks number (line.Start n) p new kept s q = subst Q (sym s) ((kept.fails refl).starts p n q)
   line-keeps k blocks number (line.Run count) p new kept s q = subst Q (sym s) (draws-keep k blocks count p q)
@@ -187,10 +190,11 @@ due-plain w queues (due.Down c) asked recovers = (refl, tt)
 due-plain w queues (due.Ready c) asked recovers = (refl, tt)
 due-plain w queues (due.Up c) asked recovers = (refl, tt)
 
--- the events are, and no line has asked to read or to recover
+-- the events are, no line has asked to read or to recover, and no write is to fail
 record Plain (p : PlayState) : Type 0 where
   asks : p.asks ≡ []
   recoveries : p.recoveries ≡ []
+  unarmed : (n : ℕ) → p.faults n ≡ 0
   plain : ArePlain p.events
 
 after-plain : (p : PlayState) (d : Due) → Among p d → Plain p → Plain (after_due p d)
@@ -198,16 +202,20 @@ unfolding after_due
 after-plain p d asked h = record {
   asks = h.asks;
   recoveries = h.recoveries;
+  unarmed = h.unarmed;
   plain = plain-join p.events (due_events (world_of p) p.queues d) h.plain
       (due-plain (world_of p) p.queues d (subst (λ (xs : List ReadAsk). AskAmong xs d) h.asks asked.0) (subst (λ (xs : List Recovery). RecoveryAmong xs d) h.recoveries asked.1));
 }
 
+befalls-plain : (p : PlayState) (d : Due) → Among p d → Plain p → Plain (befalls p d)
+befalls-plain p d asked h = subst Plain (sym (befalls-due p d h.unarmed)) (after-plain p d asked h)
+
 pub plays-plain : PlaysArePlain
 plays-plain script end sound unread s =
     let h : Plain end = play-keeps Plain (record {
-      advances = λ p h. record { asks = h.asks; recoveries = h.recoveries; plain = h.plain };
-      orders = λ p b c h. record { asks = h.asks; recoveries = h.recoveries; plain = h.plain };
-      rules = λ p b r h. record { asks = h.asks; recoveries = h.recoveries; plain = h.plain };
-      goes = λ p d _ asked h. after-plain p d asked h;
-    }) (λ nodes seed. record { asks = refl; recoveries = refl; plain = tt }) script end (sound-keep Plain script sound unread) s in
+      advances = λ p h. record { asks = h.asks; recoveries = h.recoveries; unarmed = h.unarmed; plain = h.plain };
+      orders = λ p b c h. record { asks = h.asks; recoveries = h.recoveries; unarmed = h.unarmed; plain = h.plain };
+      rules = λ p b r h. record { asks = h.asks; recoveries = h.recoveries; unarmed = h.unarmed; plain = h.plain };
+      goes = λ p d _ asked h. befalls-plain p d asked h;
+    }) (λ nodes seed. record { asks = refl; recoveries = refl; unarmed = λ n. refl; plain = tt }) script end (sound-keep Plain script sound unread) s in
     h.plain

@@ -7,13 +7,13 @@ use Rattle.world.specs.declared.events.Event.TheVariants as event
 use Rattle.world_closings.specs.Safety.{AllSafe}
 use Rattle.play_model.specs.Lines.{PlaysLines, Plays, blocks_of, stopped, stop_at, may_start, start_at}
 use Rattle.play_model.specs.States.{PlayState, opened, world_of}
-use Rattle.play_model.specs.Dues.{after_due}
+use Rattle.play_model.specs.Faults.{befalls}
 use Rattle.play_completeness.specs.Safety.{PlaysAreSafe}
 use Rattle.play_completeness.proofs.Plays.{lines-keep, any-keep}
 
-after-same : (n : ℕ) (p : PlayState) (d : _) → p.nodes ≡ n → (after_due p d).nodes ≡ n
-unfolding after_due
-after-same n p d e = e
+befalls-same : (n : ℕ) (p : PlayState) (d : _) → p.nodes ≡ n → (befalls p d).nodes ≡ n
+unfolding befalls
+befalls-same n p d e = e
 
 stop-same : (n : ℕ) (p : PlayState) (m : NodeId) → p.nodes ≡ n → (stop_at p m).nodes ≡ n
 stop-same n p m e = by ((world_of p).running m.0)
@@ -32,8 +32,8 @@ start-same n p m e = by (may_start p m)
 -- the lines of a script leave the nodes as many as they were
 nodes-stay : (n : ℕ) (blocks : List ℕ) (lines : List ScriptLine) (p end : PlayState) → p.nodes ≡ n → PlaysLines blocks lines p end → end.nodes ≡ n
 nodes-stay n blocks lines p end here plays =
-    lines-keep (λ q. q.nodes ≡ n) (record { advances = λ q e. e; orders = λ q b c e. e; rules = λ q b r e. e; goes = λ q d due asked e. after-same n q d e }) blocks lines p end
-    (any-keep (λ q. q.nodes ≡ n) (record { cuts = λ q c down up e. e; stops = λ q m e. stop-same n q m e; starts = λ q m e. start-same n q m e; recoveries = λ q r e. e }) (λ q ask e. e) lines) plays here
+    lines-keep (λ q. q.nodes ≡ n) (record { advances = λ q e. e; orders = λ q b c e. e; rules = λ q b r e. e; goes = λ q d due asked e. befalls-same n q d e }) blocks lines p end
+    (any-keep (λ q. q.nodes ≡ n) (record { cuts = λ q c down up e. e; stops = λ q m e. stop-same n q m e; starts = λ q m e. start-same n q m e; recoveries = λ q r e. e; arms = λ q m nth e. e }) (λ q ask e. e) lines) plays here
 
 pub plays-safe : AllSafe → PlaysAreSafe
 plays-safe all shelves script end fits plays =

@@ -96,10 +96,12 @@ pub record BlockPlayed (w : World) (b : ℕ) (queue : List TakenCommand) (comman
 
 -- PLAYS
 
--- A play in which these commands were given to the writers of blocks, and no line has asked to read or to recover.
+-- A play in which these commands were given to the writers of blocks, no line has asked to read or to recover, and no
+-- write is to fail.
 pub record Played (p : PlayState) (commands : ℕ → List Command) : Type 0 where
   pub asks : p.asks ≡ []
   pub recoveries : p.recoveries ≡ []
+  pub unarmed : (n : ℕ) → p.faults n ≡ 0
   pub plain : ArePlain p.events
   pub quiet : IsQuiet (world_of p)
   pub peaceful : Peaceful (world_of p)

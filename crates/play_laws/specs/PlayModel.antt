@@ -2,6 +2,7 @@
 pub use Rattle.play_model.specs.Asks
 pub use Rattle.play_model.specs.Draws
 pub use Rattle.play_model.specs.Dues
+pub use Rattle.play_model.specs.Faults
 pub use Rattle.play_model.specs.Lines
 pub use Rattle.play_model.specs.Recoveries
 pub use Rattle.play_model.specs.States

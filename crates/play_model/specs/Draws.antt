@@ -3,7 +3,8 @@ use Rattle.std.specs.Prelude.{zero, suc, ◌≡◌, ℕ, ◌%◌, List, [], ◌�
 use Rattle.rand_pcg.specs.Pcg.{pcg32}
 use Rattle.play_model.specs.declared.dues.Due.{Due}
 use Rattle.play_model.specs.States.{PlayState}
-use Rattle.play_model.specs.Dues.{dues, after_due}
+use Rattle.play_model.specs.Dues.{dues}
+use Rattle.play_model.specs.Faults.{befalls}
 
 -- of what is due, that which this word draws
 abbrev pub drawn : List Due → ℕ → Option Due
@@ -11,13 +12,13 @@ drawn due word = slice_get due (word % length due)
 
 abbrev pub happened : PlayState → Option Due → PlayState
 happened p None = p
-happened p (Some d) = after_due p d
+happened p (Some d) = befalls p d
 
 -- the generator has given one word more
 abbrev pub advanced : PlayState → PlayState
 advanced p = record p { generator = (pcg32 p.generator).1 }
 
--- Where something is due, one word is taken, and what it draws happens.
+-- Where something is due, one word is taken, and what it draws befalls.
 abbrev pub drawn_from : List Due → PlayState → PlayState
 drawn_from [] p = p
 drawn_from (d ∷ due) p = happened (advanced p) (drawn (d ∷ due) (pcg32 p.generator).0)

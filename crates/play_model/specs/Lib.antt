@@ -2,6 +2,7 @@ pub mod Asks
 pub mod Recoveries
 pub mod States
 pub mod Dues
+pub mod Faults
 pub mod Draws
 pub mod Lines
 pub mod Laws

@@ -14,10 +14,11 @@ use Rattle.world_laws.specs.World.Parts.{Upper, by_writer, Lower, writes}
 use Rattle.world_laws.specs.World.Worlds.{World}
 use Rattle.play_model.specs.declared.dues.Due.{Due}
 use Rattle.play_model.specs.declared.dues.Due.TheVariants as due
-use Rattle.play_model.specs.States.{PlayState, world_of, opened, ordered, ruled, asked, recovering}
+use Rattle.play_model.specs.States.{PlayState, world_of, opened, ordered, ruled, armed, asked, recovering}
 use Rattle.play_model.specs.Asks.{ask_at}
 use Rattle.play_model.specs.Recoveries.{recovery_at, stopped_at}
-use Rattle.play_model.specs.Dues.{is_due, after_due}
+use Rattle.play_model.specs.Dues.{is_due}
+use Rattle.play_model.specs.Faults.{befalls}
 use Rattle.play_model.specs.Draws.{draws, Settles}
 
 -- THE PRESENT PIPELINE
@@ -56,10 +57,10 @@ step_due w b (step.Down place) = option_map (λ c. due.Down (record { 0 = c })) 
 step_due w b (step.Ready place) = option_map (λ c. due.Ready (record { 0 = c })) (pipeline_conn w b place)
 step_due w b (step.Up place) = option_map (λ c. due.Up (record { 0 = c })) (pipeline_conn w b place)
 
--- It happens where it is due.
+-- It befalls where it is due.
 abbrev pub stepped : PlayState → Option Due → PlayState
 stepped p None = p
-stepped p (Some d) = if is_due (world_of p) p.queues d then after_due p d else p
+stepped p (Some d) = if is_due (world_of p) p.queues d then befalls p d else p
 
 -- CUTS
 
@@ -92,14 +93,14 @@ stop_at p node = if (world_of p).running node.0 then stopped p node else p
 abbrev pub may_start : PlayState → NodeId → Bool
 may_start p node = nat_lt node.0 p.nodes && not ((world_of p).running node.0)
 
--- Such a node starts again. No call on files has failed in a play, so that nothing need be said of what is found: all files
--- are whole.
+-- Such a node starts again. Of a write that failed nothing was kept, so that nothing need be said of what is found: all
+-- files are whole.
 abbrev pub start_at : PlayState → NodeId → PlayState
 start_at p node = if may_start p node then record p { events = p.events ++ event.Restart node [] ∷ [] } else p
 
 -- LINES
 
--- What a line, which has this number, of a script without faults makes of a play with the writers of these blocks.
+-- What a line, which has this number, makes of a play with the writers of these blocks.
 abbrev pub PlaysLine : List ℕ → ℕ → Instruction → PlayState → PlayState → Type 0
 PlaysLine blocks number (line.Sums b rule) old new = new ≡ ruled old b.0 rule
 PlaysLine blocks number (line.Create b members) old new = new ≡ ordered old b.0 (command.Create members)
@@ -118,6 +119,7 @@ PlaysLine blocks number line.Settle old new = Settles blocks old new
 PlaysLine blocks number (line.Step b event) old new = new ≡ stepped old (step_due (world_of old) b.0 event)
 PlaysLine blocks number (line.Cut b place down up) old new =
     new ≡ cut_at old (pipeline_conn (world_of old) b.0 place) down up
+PlaysLine blocks number (line.Fault node nth) old new = new ≡ armed old node.0 nth
 PlaysLine blocks number (line.Stop node) old new = new ≡ stop_at old node
 PlaysLine blocks number (line.Start node) old new = new ≡ start_at old node
 PlaysLine blocks number other old new = new ≡ old
@@ -145,7 +147,7 @@ abbrev pub blocks_of : List ScriptLine → List ℕ
 blocks_of [] = []
 blocks_of (l ∷ lines) = with_block l.instruction (blocks_of lines)
 
--- A script without faults is played: its first two lines give the nodes and the seed.
+-- A script is played: its first two lines give the nodes and the seed.
 abbrev pub PlaysFrom : Instruction → Instruction → List ScriptLine → PlayState → Type 0
 PlaysFrom (line.Nodes count) (line.Seed seed) lines end = PlaysLines (blocks_of lines) lines (opened count seed) end
 PlaysFrom first second lines end = ⊥

@@ -11,12 +11,13 @@ use Rattle.world_laws.specs.World.Events.{run}
 use Rattle.play_model.specs.declared.asks.ReadAsk.{ReadAsk}
 use Rattle.play_model.specs.declared.recoveries.Recovery.{Recovery}
 
--- A play so far: how many nodes there are; the events that happened; by block the commands that its writer hasn't
--- taken, and the rule of its sums; what the lines so far ask to read, and to recover, in their order; and the generator
--- that draws.
+-- A play so far: how many nodes there are; the events that happened; by node which of the coming writes on a data file
+-- there fails, 0 where none does; by block the commands that its writer hasn't taken, and the rule of its sums; what the
+-- lines so far ask to read, and to recover, in their order; and the generator that draws.
 pub record PlayState : Type 0 where
   pub nodes : ℕ
   pub events : List Event
+  pub faults : ℕ → ℕ
   pub queues : ℕ → List TakenCommand
   pub rules : ℕ → Rule
   pub asks : List ReadAsk
@@ -36,6 +37,7 @@ abbrev pub opened : ℕ → ℕ → PlayState
 opened nodes seed = record {
   nodes = nodes;
   events = [];
+  faults = λ _. 0;
   queues = λ _. [];
   rules = λ _. default_rule;
   asks = [];
@@ -50,6 +52,10 @@ ordered p b c = record p { queues = add p.queues b (record { command = c; rule =
 -- the rule of a block's sums is this
 abbrev pub ruled : PlayState → ℕ → Rule → PlayState
 ruled p b rule = record p { rules = put p.rules b rule }
+
+-- of the writes on a data file that come at a node this one is to fail
+abbrev pub armed : PlayState → ℕ → ℕ → PlayState
+armed p node nth = record p { faults = put p.faults node nth }
 
 -- a reader joins the play, which asks this
 abbrev pub asked : PlayState → ReadAsk → PlayState

@@ -25,6 +25,7 @@ use Rattle.member_events.specs.MemberCore.Steps.{Step, Setup, step, faulted_step
 use Rattle.play_model.specs.ReadCore.Servings.{ServingState, accepting, refusing, faulted_read, faulted_piece, next_call, piece_at, read_at, read_event}
 use Rattle.play_model.specs.RecoveryCore.RecoveryReply.{RecoveryReply}
 use Rattle.play_model.specs.RecoveryCore.Members.{Served, answer_of, recovery_event, serve, serve_faulted}
+use Rattle.play_model.specs.World.Delivery.TheVariants as delivery
 use Rattle.play_model.specs.World.Event as happening
 use Rattle.play_model.specs.World.Event.TheVariants as event
 use Rattle.play_model.specs.World.Parts.{Message, request, packet, ack, response, read_status, recovery_answer, Upper, by_member, Dialled, FullMember, Lower, idle, writes, serves, recovers, ended_below, Break, Marks}
@@ -435,18 +436,26 @@ module _ (w : World) (ordered : Ordered w) where
 
   -- DOWN
 
-  down_next : (c : ℕ) (answered : Bool) (o : Option Next) → is_pipeline (w.dialled c).upper ≡ true → IfSome (down_as w c answered false o) (λ v. StepKeeps w v (IsElse w))
-  down_next c answered None of = tt
-  down_next c answered (Some x) of =
-      changed_kept w (down_taken w c x) (IsElse w) (lower_down (w.lowers c) (down_taken w c x) c x answered false) (λ e at. within_down w e c x at.0) (down_taken_kept w (IsElse w) c x (other_conn c of))
-      (down_of (down_taken w c x) (IsElse w) c (other_conn c of) (w.lowers c) x answered false (mirror_by c (w.lowers c) (ordered.mirrors c)))
+  down_next : (c : ℕ) (answered fails : Bool) (o : Option Next) → is_pipeline (w.dialled c).upper ≡ true → IfSome (down_as w c answered fails o) (λ v. StepKeeps w v (IsElse w))
+  down_next c answered fails None of = tt
+  down_next c answered fails (Some x) of =
+      changed_kept w (down_taken w c x) (IsElse w) (lower_down (w.lowers c) (down_taken w c x) c x answered fails) (λ e at. within_down w e c x at.0) (down_taken_kept w (IsElse w) c x (other_conn c of))
+      (down_of (down_taken w c x) (IsElse w) c (other_conn c of) (w.lowers c) x answered fails (mirror_by c (w.lowers c) (ordered.mirrors c)))
 
   down_kept : (conn : ConnId) (answered : Bool) → IsOfPipeline w conn.0 → StepKeeps w (happens w (event.Down conn answered)) (IsElse w)
   unfolding happens outcome
   down_kept conn answered of =
       after_kept w (IsElse w) (event.Down conn answered) (outcome w (event.Down conn answered))
       (when-each (λ v. StepKeeps w v (IsElse w)) (is_served w conn.0) (down_as w conn.0 answered false (next_down w conn.0))
-      (λ served. down_next conn.0 answered (next_down w conn.0) (of (served_within w conn.0 served))))
+      (λ served. down_next conn.0 answered false (next_down w conn.0) (of (served_within w conn.0 served))))
+
+  -- the same where a call on files fails
+  fault_kept : (conn : ConnId) → IsOfPipeline w conn.0 → StepKeeps w (happens w (event.Fault (delivery.Down conn))) (IsElse w)
+  unfolding happens outcome
+  fault_kept conn of =
+      after_kept w (IsElse w) (event.Fault (delivery.Down conn)) (outcome w (event.Fault (delivery.Down conn)))
+      (when-each (λ v. StepKeeps w v (IsElse w)) (is_served w conn.0) (down_as w conn.0 false true (next_down w conn.0))
+      (λ served. down_next conn.0 false true (next_down w conn.0) (of (served_within w conn.0 served))))
 
   -- WITHOUT A MESSAGE
 
@@ -499,6 +508,9 @@ all_kept w v h = record {
 
 pub down_leaves : (w : World) (conn : ConnId) (answered : Bool) → Ordered w → IsOfPipeline w conn.0 → KeepsElsewhere w (happens w (event.Down conn answered))
 down_leaves w conn answered ordered of = all_kept w (happens w (event.Down conn answered)) (down_kept w ordered conn answered of)
+
+pub fault_leaves : (w : World) (conn : ConnId) → Ordered w → IsOfPipeline w conn.0 → KeepsElsewhere w (happens w (event.Fault (delivery.Down conn)))
+fault_leaves w conn ordered of = all_kept w (happens w (event.Fault (delivery.Down conn))) (fault_kept w ordered conn of)
 
 pub ready_leaves : (w : World) (conn : ConnId) → Ordered w → IsOfPipeline w conn.0 → KeepsElsewhere w (happens w (event.Ready conn))
 ready_leaves w conn ordered of = all_kept w (happens w (event.Ready conn)) (ready_kept w ordered conn of)

@@ -7,6 +7,7 @@ pub mod NodeFrames
 pub mod MemberNodes
 pub mod ReadyNodes
 pub mod TakeNodes
+pub mod RefusingNodes
 pub mod LiftLaws
 pub mod BeginNodes
 pub mod JoinNodes

@@ -1,5 +1,5 @@
 -- Blocks stay, and so does how many books each node has.
-use Rattle.std.proofs.Common.{◌≡◌, ℕ, zero, suc, List, [], ◌∷◌, length, slice_get, slice_set, Option, Some, Result, Ok, Err, refl, sym, ap, ◌∙◌, length-set}
+use Rattle.std.proofs.Common.{◌≡◌, ℕ, zero, suc, List, [], ◌∷◌, length, slice_get, slice_set, Option, Some, Result, Ok, Err, refl, sym, ap, ◌∙◌, length-set, Bool, None}
 use Rattle.member_events.specs.declared.faults.MemberFault.{MemberFault}
 use Rattle.member_events.specs.PipeMember.Member.{Member}
 use Rattle.hd_base.specs.declared.ends.Conn.{Conn}
@@ -8,8 +8,12 @@ use Rattle.play_nodes.specs.declared.faults.NodesFault.{NodesFault}
 use Rattle.play_nodes.specs.declared.nodes.NodeBooks.{NodeBooks}
 use Rattle.play_nodes.specs.declared.nodes.Nodes.{Nodes}
 use Rattle.play_nodes.specs.declared.nodes.Seat.{Seat}
-use Rattle.play_nodes.specs.Places.{book_counts, KeepsSizes, Takes, TakesIdle, PutBack, Follows}
+use Rattle.play_nodes.specs.Places.{book_counts, KeepsSizes, Takes, TakesIdle, PutBack, Follows, FollowsDown, FollowsRefusing}
 use Rattle.play_nodes.proofs.PlaceLaws.{same_some}
+use Rattle.member_events.specs.declared.steps.Downed.{Downed}
+use Rattle.member_events.specs.declared.steps.Downed.TheVariants as downed
+use Rattle.play_nodes.specs.declared.nodes.Refused.{Refused}
+use Rattle.play_nodes.specs.declared.nodes.Refused.TheVariants as refused
 
 -- Where a node has as many books as before, each does.
 counts_set : {F : Type 0} (nodes : List (NodeBooks F)) (node : ℕ) (x y : NodeBooks F) → slice_get nodes node ≡ Some x → length y.books.items ≡ length x.books.items → book_counts (slice_set nodes node y) ≡ book_counts nodes
@@ -52,6 +56,22 @@ module _ {F I O : Type 0} where
   idle_sizes old new c end t = sizes_by old new t.blocks t.nodes
 
   -- A member was taken, its book set, and what is left of it put back.
+  pub followed_sizes : (old taken set new : Nodes F I O) (s : Seat) (member : Option (Member I O)) (x y : NodeBooks F) (book : BookState F) → Takes old taken s.conn member
+      → set.blocks.items ≡ taken.blocks.items → slice_get taken.nodes.items s.node.0 ≡ Some x → y.books.items ≡ slice_set x.books.items s.place book → set.nodes.items ≡ slice_set taken.nodes.items s.node.0 y → KeepsSizes set new → KeepsSizes old new
+  followed_sizes old taken set new s member x y book t blocks found is nodes after =
+      sizes_after old taken new (take_sizes old taken s.conn member t) (sizes_after taken set new (book_sizes taken set s.node.0 s.place x y book blocks found is nodes) after)
+
+  pub down_sizes : (old new : Nodes F I O) (s : Seat) (ended : Result (Downed I O) MemberFault) (grew : Bool) (result : Result Bool NodesFault) → FollowsDown old new s ended grew result → KeepsSizes old new
+  down_sizes old new s (Ok (downed.Done left)) grew result f = put_sizes old new s left f.0
+  down_sizes old new s (Ok downed.Broke) grew result f = sizes_is old new f.0
+  down_sizes old new s (Err why) grew result f = sizes_is old new f.0
+
+  pub refusing_sizes : (old new : Nodes F I O) (s : Seat) (ended : Result (Refused I O) MemberFault) (result : Result Bool NodesFault) → FollowsRefusing old new s ended result → KeepsSizes old new
+  refusing_sizes old new s (Ok (refused.Done left)) result f = put_sizes old new s left f.0
+  refusing_sizes old new s (Ok refused.Broke) result f = put_sizes old new s None f.0
+  refusing_sizes old new s (Ok refused.Failed) result f = sizes_is old new f.0
+  refusing_sizes old new s (Err why) result f = sizes_is old new f.0
+
   pub event_sizes : (old taken set new : Nodes F I O) (s : Seat) (member : Option (Member I O)) (x y : NodeBooks F) (book : BookState F) (left : Result (Option (Member I O)) MemberFault) (result : Result (Unit {0}) NodesFault) → Takes old taken s.conn member
       → set.blocks.items ≡ taken.blocks.items → slice_get taken.nodes.items s.node.0 ≡ Some x → y.books.items ≡ slice_set x.books.items s.place book → set.nodes.items ≡ slice_set taken.nodes.items s.node.0 y → Follows set new s left result → KeepsSizes old new
   event_sizes old taken set new s member x y book left result t blocks found is nodes f =

@@ -1,5 +1,5 @@
 -- A member among the nodes takes what stands next from above, or from its mirror.
-use Rattle.std.proofs.Common.{◌≡◌, ℕ, Bool, true, false, ◌<◌, List, Option, Some, None, Result, refl, sym, ap, ◌∙◌, subst, arith}
+use Rattle.std.proofs.Common.{◌≡◌, ℕ, Bool, true, false, ◌<◌, List, Option, Some, None, Result, refl, sym, ap, ◌∙◌, subst, arith, IsSome, Ok, Err}
 use Rattle.std.specs.Prelude.{◌&&◌, nat_lt, is_some, option_map, slice_get}
 use Rattle.std.proofs.lemmas.Bool.Decides.{nat_tests}
 use Rattle.hd_base.specs.declared.files.Files as files
@@ -10,8 +10,8 @@ use Rattle.hd_base.specs.declared.roads.Roads as roads
 use Rattle.member_events.specs.ReplicaFiles.BookState.{BookState}
 use Rattle.member_events.specs.MemberCore.Mirror.{Mirror}
 use Rattle.member_events.specs.MemberCore.Mirror.TheVariants as mirror
-use Rattle.member_events.specs.MemberCore.Members.{hears}
-use Rattle.member_events.specs.MemberCore.Steps.{down_step, up_step}
+use Rattle.member_events.specs.MemberCore.Members.{hears, down_turn}
+use Rattle.member_events.specs.MemberCore.Steps.{down_step, up_step, Step, faulted_step}
 use Rattle.member_events.specs.PipeMember.Member.{Member}
 use Rattle.member_events.specs.PipeMember.Steps as members
 use Rattle.road_traffic.specs.Showing.{Net}
@@ -20,9 +20,9 @@ use Rattle.play_model.specs.World.Parts as parts
 use Rattle.play_model.specs.World.Parts.{Message, request, packet, ack, response, read_status, recovery_answer, FullMember, by_writer, by_member, by_reader, by_primary, idle, writes}
 use Rattle.play_model.specs.World.Worlds.{World, apply}
 use Rattle.play_model.specs.World.Connections.{Next, message, the_end, next_down, next_up, down_taken, up_taken, is_served, is_alive}
-use Rattle.play_model.specs.World.Nodes.{block_of, replica_at, pending_at, takes_next, above_of, below_of}
+use Rattle.play_model.specs.World.Nodes.{block_of, replica_at, pending_at, takes_next, above_of, below_of, node_of, broke_at, member_change}
 use Rattle.play_model.specs.World.Enabled.{takes_below, takes_down, hears_mirror, takes_above}
-use Rattle.play_model.specs.World.Events.{happens}
+use Rattle.play_model.specs.World.Events.{happens, outcome}
 use Rattle.play_model.specs.WorldLaws.Placing.{IsUpper, Placed}
 use Rattle.play_model.proofs.WorldLaws.FactTables.{and-left, and-right}
 use Rattle.world_orders.specs.Orders as orders
@@ -40,7 +40,7 @@ use Rattle.play_model.specs.declared.dues.Due.TheVariants as due
 use Rattle.member_events.specs.declared.faults.MemberFault.{MemberFault}
 use Rattle.member_events.specs.Texts.{IsPacketNext}
 use Rattle.member_events.specs.Events as member_events
-use Rattle.member_events.specs.Events.{IsMirrorNext}
+use Rattle.member_events.specs.Events.{IsMirrorNext, CanDown}
 use Rattle.play_nodes.specs.declared.faults.NodesFault.{NodesFault}
 use Rattle.play_nodes.specs.declared.nodes.NodeBooks.{NodeBooks}
 use Rattle.play_nodes.specs.declared.nodes.Nodes.{Nodes}
@@ -48,15 +48,27 @@ use Rattle.play_nodes.specs.declared.nodes.Seat.{Seat}
 use Rattle.play_nodes.specs.declared.connections.Connection.{Connection}
 use Rattle.play_nodes.specs.declared.connections.Upper.{Upper}
 use Rattle.play_nodes.specs.declared.connections.Upper.TheVariants as upper
-use Rattle.play_nodes.specs.Places.{book_at, IsSeated, IsUnseated, Takes, Follows, member_above, BookSet}
-use Rattle.play_nodes.specs.Showing.{UpperShows, is_pipeline, has_events, NodesStand}
-use Rattle.play_nodes.specs.Events.{DownShows, UpShows}
+use Rattle.play_nodes.specs.Places.{book_at, IsSeated, IsUnseated, Takes, Follows, member_above, BookSet, PutBack, FollowsDown, FollowsRefusing}
+use Rattle.play_nodes.specs.Showing.{UpperShows, is_pipeline, has_events, NodesStand, NodesLeft}
+use Rattle.play_nodes.specs.Events.{DownShows, UpShows, DownEnds, IsLawful}
 use Rattle.play_nodes.proofs.WorldFrames.{rest_after, rest_taken, conns_after, conns_taken}
 use Rattle.play_nodes.proofs.NodeFrames.{IsApart}
 use Rattle.play_nodes.proofs.Tables.{element}
 use Rattle.play_nodes.proofs.PlaceLaws.{same_some}
-use Rattle.play_nodes.proofs.MemberNodes.{IsMember, is_member, member_stands}
-use Rattle.play_nodes.proofs.ReadyNodes.{ends_so, taken_as, member_as, is_seated}
+use Rattle.play_nodes.proofs.MemberNodes.{IsMember, is_member, member_stands, member_left, seat_node}
+use Rattle.play_nodes.proofs.ReadyNodes.{ends_so, taken_as, member_as, is_seated, caused}
+use Rattle.play_model.specs.World.Delivery.TheVariants as delivery
+use Rattle.play_model.specs.World.Event.{Event}
+use Rattle.member_events.specs.declared.faults.MemberFault.TheVariants as member_fault
+use Rattle.member_events.specs.declared.steps.Downed.{Downed}
+use Rattle.member_events.specs.declared.steps.Downed.TheVariants as downed
+use Rattle.member_events.specs.Faults as member_faults
+use Rattle.member_events.specs.Showing.{MemberStands, MemberLeft}
+use Rattle.member_events.specs.Writes.{written_of}
+use Rattle.member_events.proofs.DownEnds.{call_of, fault_made}
+use Rattle.play_nodes.specs.declared.nodes.Refused.{Refused}
+use Rattle.play_nodes.specs.declared.nodes.Refused.TheVariants as refused
+use Rattle.play_nodes.specs.Refusing.{MemberRefuses, MemberEnds, RefusingShows, RefusingEnds, AreTold}
 
 -- WHAT STANDS NEXT
 
@@ -238,29 +250,125 @@ module _ {F R I O : Type 0} (r : roads.Ghosts R I O) (i : link_in.Ghosts I) (o :
       test_so a b h = grind (arith, nat_tests, h)
 
 module _ {F R I O : Type 0} (f : files.Ghosts F) (r : roads.Ghosts R I O) (i : link_in.Ghosts I) (o : link_out.Ghosts O) where
-  pub down_shows : (old mid set new : Nodes F I O) (conn : ConnId) (s : Seat) (m : Member I O) (book book' : BookState F) (left : Result (Option (Member I O)) MemberFault) (result : Result (Unit {0}) NodesFault) (road road' : R) → (seat : IsSeated old conn.0 s)
-      → Takes old mid s.conn (Some m) → book_at mid.nodes.items s.node.0 s.place ≡ Some book → BookSet mid set s.node.0 s.place book' → member_events.DownShows f r i o m book book' road road' left → Follows set new s left result
-      → DownShows f r i o conn old new road road' result
-  down_shows old mid set new conn s m book book' left result road road' seat taken at b shows follows = λ w net queues answered stands of lawful due busy.
+  -- What is left of a member that has taken what stood next from above, once it is back in its place.
+  left_by : (old mid set new : Nodes F I O) (s : Seat) (c : ℕ) (book' : BookState F) (left : Option (Member I O)) (road road' : R) (w : World) (net : Net) (e : Event) (x : Next) (did : Step) (broke : Option parts.Break)
+      → (stands : NodesStand r i o w net road old) → Ordered w → (seat : IsSeated old c s) → (k : IsMember i o w net c old seat.member s.place) → Takes old mid c (Some seat.member) → BookSet mid set s.node.0 s.place book' → PutBack set new s left
+      → outcome w e ≡ Some (apply (down_taken w c x) (member_change (down_taken w c x) c k.full x did broke)) → MemberLeft r i o w net (happens w e) c k.full book' road' left → NodesLeft r i o w net (happens w e) road' new
+  left_by old mid set new s c book' left road road' w net e x did broke stands ordered seat k t b put out h =
+      let w1 : World = down_taken w c x in
+      let full : FullMember = k.full in
+      let over : (d : ℕ) → IsApart full.mirror d → is_over (happens w e) d false ≡ is_over w d false = λ d apart.
+      (followed w (apply w1 (member_change w1 c full x did broke)) e out).over d false ∙ (changed-over w1 (member_change w1 c full x did broke) d false ∙ taken-over w d false c true x (λ same. refl)) in
+      member_left r i o w (happens w e) net road road' c old mid set new s seat.member book' left ordered stands seat k t b put
+      (conns_after w w1 c full x did broke e out ∙ conns_taken w c true x) (rest_taken w c true x (happens w e) c (block_of full.fields) (rest_after w w1 c full x did broke e out)) over h
+
+  -- A member among the nodes that takes what stands next from above.
+  record TakesDown (w : World) (net : Net) (conn : ConnId) (answered : Bool) (old mid : Nodes F I O) (s : Seat) (book : BookState F) (road : R) (seat : IsSeated old conn.0 s) : Type 0 where
+    t : Takes old mid conn.0 (Some seat.member)
+    k : IsMember i o w net conn.0 old seat.member s.place
+    next : Next
+    stands : MemberStands r i o w net conn.0 k.full book seat.member road
+    can : CanDown w conn answered k.full next
+    at_book : book_at old.nodes.items s.node.0 s.place ≡ Some book
+
+  member_takes : (w : World) (net : Net) (conn : ConnId) (answered : Bool) (queues : Queues) (old mid : Nodes F I O) (s : Seat) (m : Member I O) (book : BookState F) (road : R) (seat : IsSeated old conn.0 s) → Takes old mid s.conn (Some m) → book_at mid.nodes.items s.node.0 s.place ≡ Some book
+      → NodesStand r i o w net road old → IsLawful w (event.Down conn answered) → is_due w queues (due.Down conn) ≡ true → TakesDown w net conn answered old mid s book road seat
+  member_takes w net conn answered queues old mid s m book road seat taken at stands lawful due =
       let c : ℕ = conn.0 in
       let t : Takes old mid c (Some seat.member) = taken_as old mid c s m seat taken in
-      let down : member_events.DownShows f r i o seat.member book book' road road' left = subst (λ (y : Member I O). member_events.DownShows f r i o y book book' road road' left) (member_as old mid c s m seat taken) shows in
-      let e = event.Down conn answered in
       let taking : TakesAt w c = takes_at w conn queues due in
       let x : Next = taking.next in
       let k : IsMember i o w net c old seat.member s.place = is_member r i o w net road c old s stands seat in
       let full : FullMember = k.full in
       let at_book : book_at old.nodes.items s.node.0 s.place ≡ Some book = ap (λ (xs : List (NodeBooks F)). book_at xs s.node.0 s.place) (sym t.nodes) ∙ at in
-      let takes : takes_next full.state (pending_at w c full) x ≡ true = ap (λ (l : parts.Lower). takes_below l w c x) (sym k.lower) ∙ taking.takes in
-      let w1 : World = down_taken w c x in
-      let did = down_step full.state (replica_at w1 c (block_of full.fields)) (above_of x) in
-      let out = (down-makes w conn answered x taking.comes).member full k.lower takes in
-      let ends = down w net conn answered full x (member_stands r i o w net road c old s book lawful.ordered stands seat k at_book)
-      (record { comes = taking.comes; takes = takes; packets = packet_next w c full x lawful.taken lawful.before k.lower taking.comes.next; spelled = lawful.after.ups c }) in
-      let over : (d : ℕ) → IsApart full.mirror d → is_over (happens w e) d false ≡ is_over w d false = λ d apart.
-      (followed w (apply w1 (goes_down w1 c full x)) e out).over d false ∙ (changed-over w1 (goes_down w1 c full x) d false ∙ taken-over w d false c true x (λ same. refl)) in
-      ends_so f r i o old mid set new s c book book' left result road road' w net e stands lawful.ordered seat k t at b
-      (conns_after w w1 c full x did (break_at w1 c full.fields) e out ∙ conns_taken w c true x) (rest_taken w c true x (happens w e) c (block_of full.fields) (rest_after w w1 c full x did (break_at w1 c full.fields) e out)) over ends follows
+      record {
+        t = t;
+        k = k;
+        next = x;
+        stands = member_stands r i o w net road c old s book lawful.ordered stands seat k at_book;
+        can = record {
+          comes = taking.comes;
+          takes = ap (λ (l : parts.Lower). takes_below l w c x) (sym k.lower) ∙ taking.takes;
+          packets = packet_next w c full x lawful.taken lawful.before k.lower taking.comes.next;
+          spelled = lawful.after.ups c;
+        };
+        at_book = at_book;
+      }
+
+  linked : (c : ℕ) (mirror : Option ℕ) (book book' : BookState F) (road road' : R) (why : MemberFault) → member_faults.IsLinkCaused r c mirror road road' why → member_faults.IsCaused f r c mirror book book' road road' why
+  linked c mirror book book' road road' member_fault.LinkFailed h = h
+  linked c mirror book book' road road' member_fault.RoadsFailed h = h
+  linked c mirror book book' road road' member_fault.FilesFailed h = absurd h
+  linked c mirror book book' road road' member_fault.Memory h = h
+
+  -- The event was done, and what is left is back in its place.
+  done_left : (w : World) (net : Net) (conn : ConnId) (answered : Bool) (old mid set new : Nodes F I O) (s : Seat) (book book' : BookState F) (left : Option (Member I O)) (road road' : R) (seat : IsSeated old conn.0 s) (d : TakesDown w net conn answered old mid s book road seat) → NodesStand r i o w net road old → Ordered w
+      → BookSet mid set s.node.0 s.place book' → PutBack set new s left → MemberLeft r i o w net (happens w (event.Down conn answered)) conn.0 d.k.full book' road' left → NodesLeft r i o w net (happens w (event.Down conn answered)) road' new
+  done_left w net conn answered old mid set new s book book' left road road' seat d stands ordered b put h =
+      let w1 : World = down_taken w conn.0 d.next in
+      left_by old mid set new s conn.0 book' left road road' w net (event.Down conn answered) d.next (down_step d.k.full.state (replica_at w1 conn.0 (block_of d.k.full.fields)) (above_of d.next)) (break_at w1 conn.0 d.k.full.fields)
+      stands ordered seat d.k d.t b put ((down-makes w conn answered d.next d.can.comes).member d.k.full d.k.lower d.can.takes) h
+
+  -- A call on files failed in it, and nothing is left.
+  broke_left : (w : World) (net : Net) (conn : ConnId) (answered : Bool) (old mid set new : Nodes F I O) (s : Seat) (book book' : BookState F) (road road' : R) (seat : IsSeated old conn.0 s) (d : TakesDown w net conn answered old mid s book road seat) → NodesStand r i o w net road old → Ordered w
+      → BookSet mid set s.node.0 s.place book' → PutBack set new s None → MemberLeft r i o w net (happens w (event.Fault (delivery.Down conn))) conn.0 d.k.full book' road' None → NodesLeft r i o w net (happens w (event.Fault (delivery.Down conn))) road' new
+  broke_left w net conn answered old mid set new s book book' road road' seat d stands ordered b put h =
+      let w1 : World = down_taken w conn.0 d.next in
+      let full : FullMember = d.k.full in
+      let call = call_of full.state d.next d.can.packets in
+      left_by old mid set new s conn.0 book' None road road' w net (event.Fault (delivery.Down conn)) d.next (faulted_step full.state (replica_at w1 conn.0 (block_of full.fields)) (down_turn full.state (above_of d.next))) (broke_at w1 conn.0 (block_of full.fields) call.booked)
+      stands ordered seat d.k d.t b put (fault_made w conn full d.next call.booked d.can.comes d.can.takes d.k.lower call.is) h
+
+  pub down_shows : (old mid set new : Nodes F I O) (conn : ConnId) (s : Seat) (m : Member I O) (book book' : BookState F) (ended : Result (Downed I O) MemberFault) (grew : Bool) (result : Result Bool NodesFault) (road road' : R) → (seat : IsSeated old conn.0 s)
+      → Takes old mid s.conn (Some m) → book_at mid.nodes.items s.node.0 s.place ≡ Some book → BookSet mid set s.node.0 s.place book' → member_events.DownShows f r i o m book book' road road' ended → grew ≡ nat_lt (written_of book) (written_of book') → FollowsDown set new s ended grew result
+      → DownShows f r i o conn old new road road' result
+  down_shows old mid set new conn s m book book' ended grew result road road' seat taken at b shows is follows = λ w net queues answered stands of lawful due busy.
+      let d = member_takes w net conn answered queues old mid s m book road seat taken at stands lawful due in
+      let down : member_events.DownShows f r i o seat.member book book' road road' ended = subst (λ (y : Member I O). member_events.DownShows f r i o y book book' road road' ended) (member_as old mid conn.0 s m seat taken) shows in
+      by_end w net answered stands lawful.ordered d ended follows (down w net conn answered d.k.full d.next d.stands d.can)
+    where
+      by_end : (w : World) (net : Net) (answered : Bool) → NodesStand r i o w net road old → Ordered w → (d : TakesDown w net conn answered old mid s book road seat) (x : Result (Downed I O) MemberFault) → FollowsDown set new s x grew result
+          → member_events.DownEnds f r i o w net conn answered d.k.full book book' road road' x → DownEnds f r i o w net conn answered old new road road' result
+      by_end w net answered stands ordered d (Ok (downed.Done left)) k h =
+          subst (λ (y : Result Bool NodesFault). DownEnds f r i o w net conn answered old new road road' y) (sym k.1)
+          (record { grown = is ∙ sym h.told.is_grown; is_left = done_left w net conn answered old mid set new s book book' left road road' seat d stands ordered b k.0 h.is_left })
+      by_end w net answered stands ordered d (Ok downed.Broke) k h =
+          subst (λ (y : Result Bool NodesFault). DownEnds f r i o w net conn answered old new road road' y) (sym k.1)
+          (caused f r i o old mid set new s conn.0 d.k.full.mirror book book' road road' member_fault.FilesFailed d.t.nodes at b k.0 h.rose)
+      by_end w net answered stands ordered d (Err why) k h =
+          subst (λ (y : Result Bool NodesFault). DownEnds f r i o w net conn answered old new road road' y) (sym k.1)
+          (caused f r i o old mid set new s conn.0 d.k.full.mirror book book' road road' why d.t.nodes at b k.0 (linked conn.0 d.k.full.mirror book book' road road' why h))
+
+  -- The same while the writes on the data file are refused.
+  pub refusing_shows : (old mid set new : Nodes F I O) (conn : ConnId) (s : Seat) (m : Member I O) (book book' : BookState F) (ended : Result (Refused I O) MemberFault) (result : Result Bool NodesFault) (road road' : R) → (seat : IsSeated old conn.0 s)
+      → Takes old mid s.conn (Some m) → book_at mid.nodes.items s.node.0 s.place ≡ Some book → BookSet mid set s.node.0 s.place book' → MemberRefuses f r i o m book book' road road' ended → FollowsRefusing set new s ended result
+      → RefusingShows f r i o conn old new road road' result
+  refusing_shows old mid set new conn s m book book' ended result road road' seat taken at b shows follows = λ w net queues answered stands of lawful due busy.
+      let d = member_takes w net conn answered queues old mid s m book road seat taken at stands lawful due in
+      let down : MemberRefuses f r i o seat.member book book' road road' ended = subst (λ (y : Member I O). MemberRefuses f r i o y book book' road road' ended) (member_as old mid conn.0 s m seat taken) shows in
+      by_end w net answered stands lawful.ordered d ended follows (down w net conn answered d.k.full d.next d.stands d.can)
+    where
+      told_here : (w : World) (net : Net) (answered : Bool) → NodesStand r i o w net road old → TakesDown w net conn answered old mid s book road seat → AreTold f old (node_of w conn.0) → IsSome (f.files book.drawer)
+      told_here w net answered stands d told = told s.place book (ap (λ (q : ℕ). book_at old.nodes.items q s.place) (sym (seat_node r i o w net road conn.0 old s stands seat)) ∙ d.at_book)
+
+      by_end : (w : World) (net : Net) (answered : Bool) → NodesStand r i o w net road old → Ordered w → (d : TakesDown w net conn answered old mid s book road seat) (x : Result (Refused I O) MemberFault) → FollowsRefusing set new s x result
+          → MemberEnds f r i o w net conn answered d.k.full book book' road road' x → RefusingEnds f r i o w net conn answered old new road road' result
+      by_end w net answered stands ordered d (Ok (refused.Done left)) k h =
+          subst (λ (y : Result Bool NodesFault). RefusingEnds f r i o w net conn answered old new road road' y) (sym k.1) (record {
+            is_left = done_left w net conn answered old mid set new s book book' left road road' seat d stands ordered b k.0 h.is_left;
+            still = λ told. h.still (told_here w net answered stands d told);
+          })
+      by_end w net answered stands ordered d (Ok refused.Broke) k h =
+          subst (λ (y : Result Bool NodesFault). RefusingEnds f r i o w net conn answered old new road road' y) (sym k.1) (record {
+            is_left = broke_left w net conn answered old mid set new s book book' road road' seat d stands ordered b k.0 h.is_left;
+            grown = λ told. h.grown (told_here w net answered stands d told);
+          })
+      by_end w net answered stands ordered d (Ok refused.Failed) k h =
+          subst (λ (y : Result Bool NodesFault). RefusingEnds f r i o w net conn answered old new road road' y) (sym k.1)
+          (caused f r i o old mid set new s conn.0 d.k.full.mirror book book' road road' member_fault.FilesFailed d.t.nodes at b k.0 h)
+      by_end w net answered stands ordered d (Err why) k h =
+          subst (λ (y : Result Bool NodesFault). RefusingEnds f r i o w net conn answered old new road road' y) (sym k.1)
+          (caused f r i o old mid set new s conn.0 d.k.full.mirror book book' road road' why d.t.nodes at b k.0 (linked conn.0 d.k.full.mirror book book' road road' why h))
 
   pub up_shows : (old mid set new : Nodes F I O) (conn above : ConnId) (s : Seat) (m : Member I O) (book book' : BookState F) (left : Result (Option (Member I O)) MemberFault) (result : Result (Unit {0}) NodesFault) (road road' : R) → (seat : IsSeated old above.0 s)
       → member_above (option_map (λ x. x.upper) (slice_get old.connections.items conn.0)) ≡ Some above

@@ -301,6 +301,9 @@ all_kept w v h = record { office = h.office; writers = h.writers; said = h.said;
 pub down_keeps : (w : World) (conn : ConnId) (answered : Bool) → KeepsWriters w (happens w (event.Down conn answered))
 down_keeps w conn answered = all_kept w (happens w (event.Down conn answered)) (down_kept w conn answered)
 
+pub fault_keeps : (w : World) (conn : ConnId) → KeepsWriters w (happens w (event.Fault (delivery.Down conn)))
+fault_keeps w conn = all_kept w (happens w (event.Fault (delivery.Down conn))) (failing_down_kept w conn)
+
 pub ready_keeps : (w : World) (conn : ConnId) → KeepsWriters w (happens w (event.Ready conn))
 ready_keeps w conn = all_kept w (happens w (event.Ready conn)) (ready_kept w conn)
 

@@ -204,6 +204,11 @@ abbrev pub DownLeaves : Type 0
 DownLeaves = (w : World) (conn : ConnId) (answered : Bool) → Ordered w → IsOfPipeline w conn.0
     → KeepsElsewhere w (happens w (event.Down conn answered))
 
+-- And where a call on files fails.
+abbrev pub FaultLeaves : Type 0
+FaultLeaves = (w : World) (conn : ConnId) → Ordered w → IsOfPipeline w conn.0
+    → KeepsElsewhere w (happens w (event.Fault (delivery.Down conn)))
+
 abbrev pub ReadyLeaves : Type 0
 ReadyLeaves = (w : World) (conn : ConnId) → Ordered w → IsOfPipeline w conn.0
     → KeepsElsewhere w (happens w (event.Ready conn))

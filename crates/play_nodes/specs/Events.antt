@@ -17,6 +17,7 @@ use Rattle.play_model.specs.World.Events.{happens}
 use Rattle.play_model.specs.WorldLaws.Placing.{Placed}
 use Rattle.world_orders.specs.Orders.{Ordered}
 use Rattle.world_orders.specs.Takes.{TakesInOrder}
+use Rattle.world_writes.specs.Writes.{grows}
 use Rattle.member_events.specs.WorldTexts.Texts.{Written}
 use Rattle.play_model.specs.declared.dues.Due.TheVariants as due
 use Rattle.play_model.specs.Dues.{Queues, is_due}
@@ -74,13 +75,25 @@ ReadyShows f r i o conn old new road road' result =
 abbrev pub IsBusy : World → ℕ → Type 0
 IsBusy w c = w.lowers c ≡ idle → ⊥
 
+-- What stood next was taken from above, and the nodes show the world after; it is told whether the replica grew.
+pub record DownLeft {F R I O : Type 0} (r : roads.Ghosts R I O) (i : link_in.Ghosts I) (o : link_out.Ghosts O)
+    (w : World) (net : Net) (conn : ConnId) (answered : Bool) (road : R) (n : Nodes F I O) (grew : Bool) : Type 0 where
+  pub grown : grew ≡ grows w conn.0
+  pub is_left : NodesLeft r i o w net (happens w (event.Down conn answered)) road n
+
+abbrev pub DownEnds : {F R I O : Type 0} → files.Ghosts F → roads.Ghosts R I O → link_in.Ghosts I →
+    link_out.Ghosts O → World → Net → ConnId → Bool → Nodes F I O → Nodes F I O → R → R → Result Bool NodesFault →
+    Type 0
+DownEnds f r i o w net conn answered old new road road' (Ok grew) = DownLeft r i o w net conn answered road' new grew
+DownEnds f r i o w net conn answered old new road road' (Err why) = IsCaused f r old new road road' why
+
 abbrev pub DownShows : {F R I O : Type 0} → files.Ghosts F → roads.Ghosts R I O → link_in.Ghosts I →
-    link_out.Ghosts O → ConnId → Nodes F I O → Nodes F I O → R → R → Result (Unit {0}) NodesFault → Type 0
+    link_out.Ghosts O → ConnId → Nodes F I O → Nodes F I O → R → R → Result Bool NodesFault → Type 0
 DownShows f r i o conn old new road road' result =
     (w : World) (net : Net) (queues : Queues) (answered : Bool) → NodesStand r i o w net road old →
     IsOfPipeline w conn.0 → IsLawful w (event.Down conn answered) → is_due w queues (due.Down conn) ≡ true →
     IsBusy w conn.0
-    → EventEnds f r i o w net (event.Down conn answered) old new road road' result
+    → DownEnds f r i o w net conn answered old new road road' result
 
 abbrev pub UpShows : {F R I O : Type 0} → files.Ghosts F → roads.Ghosts R I O → link_in.Ghosts I → link_out.Ghosts O →
     ConnId → Nodes F I O → Nodes F I O → R → R → Result (Unit {0}) NodesFault → Type 0

@@ -8,6 +8,7 @@ use Rattle.hd_base.specs.declared.numbers.BlockId.{BlockId}
 use Rattle.hd_base.specs.declared.numbers.ConnId.{ConnId}
 use Rattle.hd_base.specs.declared.numbers.NodeId.{NodeId}
 use Rattle.road_traffic.specs.Showing.{Net}
+use Rattle.play_model.specs.World.Delivery.TheVariants as delivery
 use Rattle.play_model.specs.World.Event.TheVariants as event
 use Rattle.play_model.specs.World.Parts.{by_writer, by_member, idle}
 use Rattle.play_model.specs.World.Worlds.{World}
@@ -123,6 +124,10 @@ pub record KeepsWriters (w v : World) : Type 0 where
 
 abbrev pub DownKeeps : Type 0
 DownKeeps = (w : World) (conn : ConnId) (answered : Bool) → KeepsWriters w (happens w (event.Down conn answered))
+
+-- So they do where a call on files fails.
+abbrev pub FaultKeeps : Type 0
+FaultKeeps = (w : World) (conn : ConnId) → KeepsWriters w (happens w (event.Fault (delivery.Down conn)))
 
 abbrev pub ReadyKeeps : Type 0
 ReadyKeeps = (w : World) (conn : ConnId) → KeepsWriters w (happens w (event.Ready conn))

@@ -3,6 +3,7 @@ pub mod Places
 pub mod Numbers
 pub mod Showing
 pub mod Events
+pub mod Refusing
 pub mod Beginning
 pub mod Dues
 pub mod Frames

@@ -1,5 +1,5 @@
 -- Members and books in their places among the nodes of a play.
-use Rattle.std.specs.Prelude.{◌==◌, length, map, position, ◌++◌, ◌-◌, [], ◌∷◌, ◌≡◌, ℕ, List, slice_get, slice_set, Option, Some, None, IsSome, option_and_then, Result, Ok, Err}
+use Rattle.std.specs.Prelude.{◌==◌, Bool, true, false, length, map, position, ◌++◌, ◌-◌, [], ◌∷◌, ◌≡◌, ℕ, List, slice_get, slice_set, Option, Some, None, IsSome, option_and_then, Result, Ok, Err}
 use Rattle.hd_base.specs.declared.ends.Conn.{Conn}
 use Rattle.hd_base.specs.declared.files.Files as files
 use Rattle.hd_base.specs.declared.links.LinkIn as link_in
@@ -16,6 +16,8 @@ use Rattle.member_events.specs.declared.faults.MemberFault.{MemberFault}
 use Rattle.member_events.specs.declared.joining.Joined.{Joined}
 use Rattle.member_events.specs.declared.joining.MirrorDial.{MirrorDial}
 use Rattle.member_events.specs.declared.joining.MirrorDial.TheVariants as dial
+use Rattle.member_events.specs.declared.steps.Downed.{Downed}
+use Rattle.member_events.specs.declared.steps.Downed.TheVariants as downed
 use Rattle.member_events.specs.Joining.{JoinShows}
 use Rattle.member_events.specs.PipeMember.Member.{Member}
 use Rattle.member_events.specs.ReplicaFiles.BookState.{BookState}
@@ -28,6 +30,8 @@ use Rattle.play_nodes.specs.declared.faults.NodesFault.{NodesFault}
 use Rattle.play_nodes.specs.declared.faults.NodesFault.TheVariants as fault
 use Rattle.play_nodes.specs.declared.nodes.NodeBooks.{NodeBooks}
 use Rattle.play_nodes.specs.declared.nodes.Nodes.{Nodes}
+use Rattle.play_nodes.specs.declared.nodes.Refused.{Refused}
+use Rattle.play_nodes.specs.declared.nodes.Refused.TheVariants as refused
 use Rattle.play_nodes.specs.declared.nodes.Seat.{Seat}
 use Rattle.play_nodes.specs.Faults.{fault_at}
 
@@ -102,6 +106,21 @@ abbrev pub Follows : {F I O : Type 0} → Nodes F I O → Nodes F I O → Seat �
     Result (Unit {0}) NodesFault → Type 0
 Follows old new s (Ok left) result = PutBack old new s left × (result ≡ Ok tt)
 Follows old new s (Err why) result = (new ≡ old) × (result ≡ Err (fault_at s.node why))
+
+-- What follows an event in which a member has taken what stood next from above, by whether its replica grew.
+abbrev pub FollowsDown : {F I O : Type 0} → Nodes F I O → Nodes F I O → Seat → Result (Downed I O) MemberFault → Bool →
+    Result Bool NodesFault → Type 0
+FollowsDown old new s (Ok (downed.Done left)) grew result = PutBack old new s left × (result ≡ Ok grew)
+FollowsDown old new s (Ok downed.Broke) grew result = (new ≡ old) × (result ≡ Err (fault.FilesFailed s.node))
+FollowsDown old new s (Err why) grew result = (new ≡ old) × (result ≡ Err (fault_at s.node why))
+
+-- What follows one in which the writes on the member's data file were refused.
+abbrev pub FollowsRefusing : {F I O : Type 0} → Nodes F I O → Nodes F I O → Seat → Result (Refused I O) MemberFault →
+    Result Bool NodesFault → Type 0
+FollowsRefusing old new s (Ok (refused.Done left)) result = PutBack old new s left × (result ≡ Ok false)
+FollowsRefusing old new s (Ok refused.Broke) result = PutBack old new s None × (result ≡ Ok true)
+FollowsRefusing old new s (Ok refused.Failed) result = (new ≡ old) × (result ≡ Err (fault.FilesFailed s.node))
+FollowsRefusing old new s (Err why) result = (new ≡ old) × (result ≡ Err (fault_at s.node why))
 
 -- the member that dialled a connection, if one did
 abbrev pub member_above : Option Upper → Option ConnId

@@ -1,7 +1,7 @@
 //! What the events of writers leave of the nodes, and what the events of the nodes leave of the writers.
 
-ghost use Rattle.play_nodes.specs.Elsewhere.{NodesFollow, UpperEndsStay, DownLeaves, ReadyLeaves, MirrorLeaves, OwnLeaves, HeardLeaves};
-ghost use Rattle.play_nodes.specs.Frames.{NodesEndsStay, NodesStay, OwnKeeps, HeardKeeps, DownKeeps, ReadyKeeps, MirrorKeeps};
+ghost use Rattle.play_nodes.specs.Elsewhere.{NodesFollow, UpperEndsStay, DownLeaves, FaultLeaves, ReadyLeaves, MirrorLeaves, OwnLeaves, HeardLeaves};
+ghost use Rattle.play_nodes.specs.Frames.{NodesEndsStay, NodesStay, OwnKeeps, HeardKeeps, DownKeeps, FaultKeeps, ReadyKeeps, MirrorKeeps};
 
 use hd_base::{Files, LinkIn, LinkOut};
 
@@ -34,6 +34,7 @@ pub fn writers_keep_nodes()
 /// The events of the nodes keep the office, the writers, and what they have answered.
 pub fn nodes_keep_writers()
     ensures down { DownKeeps }
+    ensures fault { FaultKeeps }
     ensures ready { ReadyKeeps }
     ensures up { MirrorKeeps }
 {}
@@ -41,6 +42,7 @@ pub fn nodes_keep_writers()
 /// The events of the nodes keep readers, primaries, and connections that are none of a pipeline.
 pub fn nodes_keep_elsewhere()
     ensures down { DownLeaves }
+    ensures fault { FaultLeaves }
     ensures ready { ReadyLeaves }
     ensures up { MirrorLeaves }
 {}

@@ -11,6 +11,7 @@ mod events;
 mod faults;
 mod frames;
 mod nodes;
+mod refusing;
 
 pub use connections::{Connection, Lower, Upper};
 pub use faults::NodesFault;

@@ -1,12 +1,12 @@
 //! The nodes of a play.
 
 ghost use Rattle.std.specs.Prelude.{◌≡◌, ◌<◌, length, is_some, option_map, slice_get};
-ghost use Rattle.play_nodes.specs.Places.{book_at, IsSeat, Takes, PutBack, Follows, member_above};
+ghost use Rattle.play_nodes.specs.Places.{book_at, IsSeat, Takes, PutBack, Follows, FollowsDown, member_above};
 
 use crate::connections::{Connection, Lower, Upper};
 use crate::faults::{NodesFault, fault_at};
 use hd_base::{BlockId, ConnId, Files, LinkIn, LinkOut, NodeId};
-use member_events::{Member, MemberFault, ReplicaBook};
+use member_events::{Downed, Member, MemberFault, ReplicaBook};
 use std::mem;
 
 /// The books of a node, in the order of the blocks of the play.
@@ -32,6 +32,18 @@ pub(crate) struct Seat {
     pub conn: usize,
     pub node: NodeId,
     pub place: usize,
+}
+
+/// What an event leaves in which a member takes what stands next from above, while the writes on its replica's data file
+/// are refused.
+#[derive(Drop)]
+pub(crate) enum Refused<I, O> {
+    /// No write was refused, and the event was done; the member goes on, unless it has shut.
+    Done(Option<Member<I, O>>),
+    /// A write was refused: the replica broke, and the member has shut.
+    Broke,
+    /// Another call on the replica's files failed, and the drawer's count rose.
+    Failed,
 }
 
 impl<F: Files, I: LinkIn, O: LinkOut> Nodes<F, I, O> {
@@ -113,6 +125,26 @@ impl<F: Files, I: LinkIn, O: LinkOut> Nodes<F, I, O> {
                 self.put_back(seat, left);
                 Ok(())
             }
+            Err(fault) => Err(fault_at(seat.node, fault)),
+        }
+    }
+
+    /// What follows an event in which a member has taken what stood next from above: whether its replica grew.
+    pub(crate) fn follow_down(
+        &mut self,
+        seat: Seat,
+        ended: Result<Downed<I, O>, MemberFault>,
+        grew: bool,
+    ) -> Result<bool, NodesFault>
+        requires { seat.conn < length self.old.connections.items }
+        ensures { FollowsDown self.old self.new seat ended grew result }
+    {
+        match ended {
+            Ok(Downed::Done(left)) => {
+                self.put_back(seat, left);
+                Ok(grew)
+            }
+            Ok(Downed::Broke) => Err(NodesFault::FilesFailed { node: seat.node }),
             Err(fault) => Err(fault_at(seat.node, fault)),
         }
     }

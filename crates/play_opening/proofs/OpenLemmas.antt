@@ -86,7 +86,7 @@ no_office : (nodes : ℕ) → new_book.office ≡ (start nodes).office
 unfolding start
 no_office nodes = refl
 
-no_events : (nodes : ℕ) (blocks : List BlockId) → EventsFit nodes blocks []
+no_events : (nodes : ℕ) (blocks : List BlockId) → EventsFit (start nodes) nodes blocks []
 no_events nodes blocks = record { widths = tt; names = tt; among = tt; whole = tt }
 
 module _ {S D R I O : Type 0} (s : shelves.Ghosts S D) (d : files.Ghosts D) (r : roads.Ghosts R I O) (i : link_in.Ghosts I) (o : link_out.Ghosts O) where
@@ -116,7 +116,7 @@ module _ {S D R I O : Type 0} (s : shelves.Ghosts S D) (d : files.Ghosts D) (r :
         net = opened_net nodes;
         shows = subst (λ (w : World). PlayerShows r i o w (opened_net nodes) no_commands road p) (sym same) (player_shows blocks old new nodes (opened_net nodes) p road count distinct h reads recoveries stand);
         few = few;
-        events = subst (λ (es : List Event). EventsFit nodes p.nodes.blocks.items es) (sym h.events) (no_events nodes p.nodes.blocks.items);
+        events = subst (λ (es : List Event). EventsFit (start nodes) nodes p.nodes.blocks.items es) (sym h.events) (no_events nodes p.nodes.blocks.items);
         clients = λ k c at. client_fits nodes p.nodes.blocks.items (world_of nodes p) k c
             (ap (λ (bs : List BlockId). slice_get bs k) h.nodes.blocks_are ∙ block_here blocks p.clients.items h.clients k c at) (h.clients.each k c at);
         asks = λ k ask at. absurd (no_element ask (sym (ap (λ (xs : List (ReadClient I O)). slice_get (asks_of xs) k) h.reads.clients) ∙ at));

@@ -5,6 +5,7 @@ use Rattle.hd_base.specs.declared.numbers.BlockId.{BlockId}
 use Rattle.hd_base.specs.declared.numbers.ConnId.{ConnId}
 use Rattle.primary_events.specs.World.Caller.TheVariants as caller
 use Rattle.primary_events.specs.World.Event.{Event}
+use Rattle.primary_events.specs.World.Delivery.TheVariants as delivery
 use Rattle.primary_events.specs.World.Event.TheVariants as event
 use Rattle.primary_events.specs.World.OwnStep.TheVariants as own
 use Rattle.primary_events.specs.World.TakenCommand.{TakenCommand}
@@ -25,7 +26,7 @@ use Rattle.play_readers.specs.PlayModel.Dues.{own_events, asking, acting}
 use Rattle.play_readers.proofs.WorldSettling.PrimaryAsides.{Aside, lower-down-aside, lower-ready-aside, mirror-up-aside, own-writer-aside, writer-up-aside, asks-office-aside}
 use Rattle.play_readers.proofs.OtherSteps.{put_same}
 use Rattle.play_readers.proofs.ReaderSteps as reader
-use Rattle.play_primaries.specs.Frames.{KeepsPrimaries, WritingKeepsPrimaries, AcksKeepPrimaries, DownKeepsPrimaries, ReadyKeepsPrimaries, MirrorKeepsPrimaries, AskingKeepsPrimaries, PiecesKeepPrimaries}
+use Rattle.play_primaries.specs.Frames.{KeepsPrimaries, WritingKeepsPrimaries, AcksKeepPrimaries, DownKeepsPrimaries, FaultKeepsPrimaries, ReadyKeepsPrimaries, MirrorKeepsPrimaries, AskingKeepsPrimaries, PiecesKeepPrimaries}
 
 -- STEPS
 
@@ -72,16 +73,25 @@ all_kept w v h = record { primaries = h.primaries; over = λ number place c by. 
 
 -- LOWER ENDS
 
-down_next : (w : World) (c : ℕ) (answered : Bool) (o : Option Next) → IfSome (down_as w c answered false o) (λ v. StepKeeps w v None)
-down_next w c answered None = tt
-down_next w c answered (Some x) =
-    changed_kept w (down_taken w c x) None (lower_down (w.lowers c) (down_taken w c x) c x answered false) (down_taken_kept w c x) (lower-down-aside (w.lowers c) (down_taken w c x) c x answered false)
+down_next : (w : World) (c : ℕ) (answered fails : Bool) (o : Option Next) → IfSome (down_as w c answered fails o) (λ v. StepKeeps w v None)
+down_next w c answered fails None = tt
+down_next w c answered fails (Some x) =
+    changed_kept w (down_taken w c x) None (lower_down (w.lowers c) (down_taken w c x) c x answered fails) (down_taken_kept w c x) (lower-down-aside (w.lowers c) (down_taken w c x) c x answered fails)
 
 down_kept : (w : World) (conn : ConnId) (answered : Bool) → StepKeeps w (happens w (event.Down conn answered)) None
 unfolding happens outcome
 down_kept w conn answered =
     after_kept w None (event.Down conn answered) (outcome w (event.Down conn answered))
-    (when-each (λ v. StepKeeps w v None) (is_served w conn.0) (down_as w conn.0 answered false (next_down w conn.0)) (λ _. down_next w conn.0 answered (next_down w conn.0)))
+    (when-each (λ v. StepKeeps w v None) (is_served w conn.0) (down_as w conn.0 answered false (next_down w conn.0)) (λ _. down_next w conn.0 answered false (next_down w conn.0)))
+
+fault_kept : (w : World) (conn : ConnId) → StepKeeps w (happens w (event.Fault (delivery.Down conn))) None
+unfolding happens outcome
+fault_kept w conn =
+    after_kept w None (event.Fault (delivery.Down conn)) (outcome w (event.Fault (delivery.Down conn)))
+    (when-each (λ v. StepKeeps w v None) (is_served w conn.0) (down_as w conn.0 false true (next_down w conn.0)) (λ _. down_next w conn.0 false true (next_down w conn.0)))
+
+pub fault_keeps : FaultKeepsPrimaries
+fault_keeps w conn = all_kept w (happens w (event.Fault (delivery.Down conn))) (fault_kept w conn)
 
 pub down_keeps : DownKeepsPrimaries
 down_keeps w conn answered = all_kept w (happens w (event.Down conn answered)) (down_kept w conn answered)

@@ -4,6 +4,7 @@ use Rattle.hd_base.specs.declared.numbers.BlockId.{BlockId}
 use Rattle.hd_base.specs.declared.numbers.ConnId.{ConnId}
 use Rattle.hd_base.specs.declared.numbers.NodeId.{NodeId}
 use Rattle.op_headers.specs.declared.ops.ReadOp.{ReadOp}
+use Rattle.primary_events.specs.World.Delivery.TheVariants as delivery
 use Rattle.primary_events.specs.World.Event.TheVariants as event
 use Rattle.primary_events.specs.World.Connections.{is_served}
 use Rattle.primary_events.specs.World.Events.{happens, run}
@@ -86,6 +87,11 @@ AcksKeepPrimaries = (w : World) (conn : ConnId) (b : ℕ) → (w.dialled conn.0)
 abbrev pub DownKeepsPrimaries : Type 0
 DownKeepsPrimaries = (w : World) (conn : ConnId) (answered : Bool) →
     KeepsPrimaries w (happens w (event.Down conn answered))
+
+-- It takes it, and a call on files fails in it.
+abbrev pub FaultKeepsPrimaries : Type 0
+FaultKeepsPrimaries = (w : World) (conn : ConnId) →
+    KeepsPrimaries w (happens w (event.Fault (delivery.Down conn)))
 
 abbrev pub ReadyKeepsPrimaries : Type 0
 ReadyKeepsPrimaries = (w : World) (conn : ConnId) → KeepsPrimaries w (happens w (event.Ready conn))

@@ -10,6 +10,7 @@ ghost use Rattle.play_primaries.specs.Frames.{
   WritingKeepsPrimaries,
   AcksKeepPrimaries,
   DownKeepsPrimaries,
+  FaultKeepsPrimaries,
   ReadyKeepsPrimaries,
   MirrorKeepsPrimaries,
   AskingKeepsPrimaries,
@@ -49,6 +50,7 @@ pub fn writers_keep_primaries()
 /// So does what the lower ends of connections take and do without a message, and what a member takes from its mirror.
 pub fn members_keep_primaries()
     ensures downs { DownKeepsPrimaries }
+    ensures faults { FaultKeepsPrimaries }
     ensures readies { ReadyKeepsPrimaries }
     ensures mirrors { MirrorKeepsPrimaries }
 {}

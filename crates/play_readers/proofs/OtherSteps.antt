@@ -5,6 +5,7 @@ use Rattle.hd_base.specs.declared.numbers.BlockId.{BlockId}
 use Rattle.hd_base.specs.declared.numbers.ConnId.{ConnId}
 use Rattle.play_model.specs.World.Caller.TheVariants as caller
 use Rattle.play_model.specs.World.Event.{Event}
+use Rattle.play_model.specs.World.Delivery.TheVariants as delivery
 use Rattle.play_model.specs.World.Event.TheVariants as event
 use Rattle.play_model.specs.World.OwnStep.TheVariants as own
 use Rattle.play_model.specs.World.TakenCommand.{TakenCommand}
@@ -24,7 +25,7 @@ use Rattle.reader_events.specs.WriterCore.Transitions.{own_step}
 use Rattle.play_model.specs.Dues.{own_events, asking, acting}
 use Rattle.reader_events.proofs.WorldSettling.ReaderAsides.{own-writer-stays, writer-up-stays, office-stays}
 use Rattle.reader_events.proofs.WorldSettling.ReaderNodeAsides.{Stays, lower-down-stays, lower-ready-stays, mirror-up-stays}
-use Rattle.play_readers.specs.Frames.{KeepsReaders, OwnStepsKeepReaders, HearingKeepsReaders, DownKeepsReaders, ReadyKeepsReaders, MirrorKeepsReaders}
+use Rattle.play_readers.specs.Frames.{KeepsReaders, OwnStepsKeepReaders, HearingKeepsReaders, DownKeepsReaders, FaultKeepsReaders, ReadyKeepsReaders, MirrorKeepsReaders}
 
 -- a table with what stood there already
 pub put_same : {A : Type 0} (f : ℕ → A) (n : ℕ) (x : A) (j : ℕ) → x ≡ f n → put f n x j ≡ f j
@@ -75,16 +76,25 @@ all_kept w v h = record { readers = h.readers; over = λ line c by. h.over c tt 
 
 -- LOWER ENDS
 
-down_next : (w : World) (c : ℕ) (answered : Bool) (o : Option Next) → IfSome (down_as w c answered false o) (λ v. StepKeeps w v None)
-down_next w c answered None = tt
-down_next w c answered (Some x) =
-    changed_kept w (down_taken w c x) None (lower_down (w.lowers c) (down_taken w c x) c x answered false) (down_taken_kept w c x) (lower-down-stays (w.lowers c) (down_taken w c x) c x answered false)
+down_next : (w : World) (c : ℕ) (answered fails : Bool) (o : Option Next) → IfSome (down_as w c answered fails o) (λ v. StepKeeps w v None)
+down_next w c answered fails None = tt
+down_next w c answered fails (Some x) =
+    changed_kept w (down_taken w c x) None (lower_down (w.lowers c) (down_taken w c x) c x answered fails) (down_taken_kept w c x) (lower-down-stays (w.lowers c) (down_taken w c x) c x answered fails)
 
 down_kept : (w : World) (conn : ConnId) (answered : Bool) → StepKeeps w (happens w (event.Down conn answered)) None
 unfolding happens outcome
 down_kept w conn answered =
     after_kept w None (event.Down conn answered) (outcome w (event.Down conn answered))
-    (when-each (λ v. StepKeeps w v None) (is_served w conn.0) (down_as w conn.0 answered false (next_down w conn.0)) (λ _. down_next w conn.0 answered (next_down w conn.0)))
+    (when-each (λ v. StepKeeps w v None) (is_served w conn.0) (down_as w conn.0 answered false (next_down w conn.0)) (λ _. down_next w conn.0 answered false (next_down w conn.0)))
+
+fault_kept : (w : World) (conn : ConnId) → StepKeeps w (happens w (event.Fault (delivery.Down conn))) None
+unfolding happens outcome
+fault_kept w conn =
+    after_kept w None (event.Fault (delivery.Down conn)) (outcome w (event.Fault (delivery.Down conn)))
+    (when-each (λ v. StepKeeps w v None) (is_served w conn.0) (down_as w conn.0 false true (next_down w conn.0)) (λ _. down_next w conn.0 false true (next_down w conn.0)))
+
+pub fault_keeps : FaultKeepsReaders
+fault_keeps w conn = all_kept w (happens w (event.Fault (delivery.Down conn))) (fault_kept w conn)
 
 pub down_keeps : DownKeepsReaders
 down_keeps w conn answered = all_kept w (happens w (event.Down conn answered)) (down_kept w conn answered)

@@ -4,6 +4,7 @@ use Rattle.hd_base.specs.declared.numbers.BlockId.{BlockId}
 use Rattle.hd_base.specs.declared.numbers.ConnId.{ConnId}
 use Rattle.hd_base.specs.declared.numbers.NodeId.{NodeId}
 use Rattle.op_headers.specs.declared.ops.ReadOp.{ReadOp}
+use Rattle.play_model.specs.World.Delivery.TheVariants as delivery
 use Rattle.play_model.specs.World.Event.TheVariants as event
 use Rattle.play_model.specs.World.Connections.{is_served}
 use Rattle.play_model.specs.World.Events.{happens, run}
@@ -101,6 +102,11 @@ HearingKeepsReaders = (w : World) (conn : ConnId) (b : ℕ) → (w.dialled conn.
 abbrev pub DownKeepsReaders : Type 0
 DownKeepsReaders = (w : World) (conn : ConnId) (answered : Bool) →
     KeepsReaders w (happens w (event.Down conn answered))
+
+-- It takes it, and a call on files fails in it.
+abbrev pub FaultKeepsReaders : Type 0
+FaultKeepsReaders = (w : World) (conn : ConnId) →
+    KeepsReaders w (happens w (event.Fault (delivery.Down conn)))
 
 abbrev pub ReadyKeepsReaders : Type 0
 ReadyKeepsReaders = (w : World) (conn : ConnId) → KeepsReaders w (happens w (event.Ready conn))

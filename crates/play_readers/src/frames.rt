@@ -10,6 +10,7 @@ ghost use Rattle.play_readers.specs.Frames.{
   OwnStepsKeepReaders,
   HearingKeepsReaders,
   DownKeepsReaders,
+  FaultKeepsReaders,
   ReadyKeepsReaders,
   MirrorKeepsReaders,
 };
@@ -46,6 +47,7 @@ pub fn writers_keep_readers()
 /// So does what the lower ends of connections take and do without a message, and what a member takes from its mirror.
 pub fn members_keep_readers()
     ensures downs { DownKeepsReaders }
+    ensures faults { FaultKeepsReaders }
     ensures readies { ReadyKeepsReaders }
     ensures mirrors { MirrorKeepsReaders }
 {}

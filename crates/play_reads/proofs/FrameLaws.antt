@@ -3,6 +3,7 @@ use Rattle.std.proofs.Common.{◌≡◌, ◌≤◌, ℕ, Bool, true, false, Opti
 use Rattle.hd_base.specs.declared.links.LinkIn as link_in
 use Rattle.hd_base.specs.declared.links.LinkOut as link_out
 use Rattle.road_traffic.specs.Showing.{Net}
+use Rattle.world.specs.declared.events.Delivery.TheVariants as delivery
 use Rattle.world.specs.declared.events.Event.TheVariants as event
 use Rattle.world.specs.Events.{happens, run}
 use Rattle.world.specs.Parts.{Upper, by_writer, by_member, by_reader, by_primary}
@@ -14,10 +15,10 @@ use Rattle.play_nodes.specs.WorldOrders.Orders.{Ordered, IsWriterConn, purpose_o
 use Rattle.play_primaries.specs.ClientEvents.Showing.{OthersStay}
 use Rattle.play_nodes.specs.PlayModel.Due.TheVariants as due
 use Rattle.play_nodes.specs.PlayModel.Dues.{due_events}
-use Rattle.play_nodes.specs.Elsewhere.{KeepsElsewhere, DownLeaves, ReadyLeaves, MirrorLeaves, OwnLeaves, HeardLeaves}
+use Rattle.play_nodes.specs.Elsewhere.{KeepsElsewhere, DownLeaves, FaultLeaves, ReadyLeaves, MirrorLeaves, OwnLeaves, HeardLeaves}
 use Rattle.play_nodes.specs.Showing.{is_pipeline, ElsewhereStays}
-use Rattle.play_primaries.specs.PlayReaders.Frames.{OwnStepsKeepReaders, HearingKeepsReaders, DownKeepsReaders, ReadyKeepsReaders, MirrorKeepsReaders}
-use Rattle.play_reads.specs.Keeping.{KeepsServers, ReadingEndsStay, OwnStepsKeepReads, HearingKeepsReads, DownKeepsReads, ReadyKeepsReads, MirrorKeepsReads, CutsKeepReads}
+use Rattle.play_primaries.specs.PlayReaders.Frames.{OwnStepsKeepReaders, HearingKeepsReaders, DownKeepsReaders, FaultKeepsReaders, ReadyKeepsReaders, MirrorKeepsReaders}
+use Rattle.play_reads.specs.Keeping.{KeepsServers, ReadingEndsStay, OwnStepsKeepReads, HearingKeepsReads, DownKeepsReads, FaultKeepsReads, ReadyKeepsReads, MirrorKeepsReads, CutsKeepReads}
 use Rattle.play_reads.proofs.ClientLaws.{no_writer_reads}
 use Rattle.play_reads.proofs.KeepLaws.{none_between}
 
@@ -88,6 +89,14 @@ module _ {I O : Type 0} (i : link_in.Ghosts I) (o : link_out.Ghosts O) where
     readers = readers w conn answered;
     servers = elsewhere_servers w (happens w (event.Down conn answered)) (leaves w conn answered ordered (λ within. is));
     ends = elsewhere_ends w net (happens w (event.Down conn answered)) made stays;
+  }
+
+  pub faults_kept : FaultLeaves → FaultKeepsReaders → FaultKeepsReads i o
+  faults_kept leaves readers w net made conn ordered is stays = record {
+    ordered = ordered;
+    readers = readers w conn;
+    servers = elsewhere_servers w (happens w (event.Fault (delivery.Down conn))) (leaves w conn ordered (λ within. is));
+    ends = elsewhere_ends w net (happens w (event.Fault (delivery.Down conn))) made stays;
   }
 
   pub readies_kept : ReadyLeaves → ReadyKeepsReaders → ReadyKeepsReads i o

@@ -7,6 +7,7 @@ use Rattle.hd_base.specs.declared.numbers.BlockId.{BlockId}
 use Rattle.hd_base.specs.declared.numbers.ConnId.{ConnId}
 use Rattle.hd_base.specs.declared.numbers.NodeId.{NodeId}
 use Rattle.road_traffic.specs.Showing.{Net}
+use Rattle.world.specs.declared.events.Delivery.TheVariants as delivery
 use Rattle.world.specs.declared.events.Event.TheVariants as event
 use Rattle.world.specs.declared.events.FoundReplica.{FoundReplica}
 use Rattle.world.specs.Events.{happens, run}
@@ -87,6 +88,13 @@ DownKeepsReads i o =
     is_pipeline (w.dialled conn.0).upper ≡ true →
     ElsewhereStays i o w net (happens w (event.Down conn answered)) made
     → KeepsReads i o w net (happens w (event.Down conn answered)) made
+
+-- So does what it takes where a call on files fails in it.
+abbrev pub FaultKeepsReads : {I O : Type 0} → link_in.Ghosts I → link_out.Ghosts O → Type 0
+FaultKeepsReads i o =
+    (w : World) (net : Net) (made : Net) (conn : ConnId) → Ordered w → is_pipeline (w.dialled conn.0).upper ≡ true →
+    ElsewhereStays i o w net (happens w (event.Fault (delivery.Down conn))) made
+    → KeepsReads i o w net (happens w (event.Fault (delivery.Down conn))) made
 
 abbrev pub ReadyKeepsReads : {I O : Type 0} → link_in.Ghosts I → link_out.Ghosts O → Type 0
 ReadyKeepsReads i o =

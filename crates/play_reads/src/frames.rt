@@ -6,6 +6,7 @@ ghost use Rattle.play_reads.specs.Keeping.{
   OwnStepsKeepReads,
   HearingKeepsReads,
   DownKeepsReads,
+  FaultKeepsReads,
   ReadyKeepsReads,
   MirrorKeepsReads,
   LeadingKeepsReads,
@@ -41,6 +42,7 @@ pub fn writers_keep_reads<I: LinkIn, O: LinkOut>()
 /// So do the events of members.
 pub fn members_keep_reads<I: LinkIn, O: LinkOut>()
     ensures downs { DownKeepsReads I.LinkIn O.LinkOut }
+    ensures faults { FaultKeepsReads I.LinkIn O.LinkOut }
     ensures readies { ReadyKeepsReads I.LinkIn O.LinkOut }
     ensures mirrors { MirrorKeepsReads I.LinkIn O.LinkOut }
 {

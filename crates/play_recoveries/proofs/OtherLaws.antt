@@ -4,6 +4,7 @@ use Rattle.hd_base.specs.declared.links.LinkIn as link_in
 use Rattle.hd_base.specs.declared.links.LinkOut as link_out
 use Rattle.road_traffic.specs.Showing.{Net}
 use Rattle.world.specs.declared.events.Event.{Event}
+use Rattle.world.specs.declared.events.Delivery.TheVariants as delivery
 use Rattle.world.specs.declared.events.Event.TheVariants as event
 use Rattle.world.specs.Events.{run}
 use Rattle.world.specs.Parts.{Upper, by_writer, by_member, by_reader, by_primary}
@@ -14,12 +15,12 @@ use Rattle.play_primaries.specs.ClientEvents.Showing.{OthersStay}
 use Rattle.play_model.specs.declared.dues.Due.TheVariants as due
 use Rattle.play_model.specs.Asks.{asking_node, request_of}
 use Rattle.play_model.specs.Dues.{due_events}
-use Rattle.play_nodes.specs.Elsewhere.{KeepsElsewhere, DownLeaves, ReadyLeaves, MirrorLeaves, OwnLeaves, HeardLeaves}
+use Rattle.play_nodes.specs.Elsewhere.{KeepsElsewhere, DownLeaves, FaultLeaves, ReadyLeaves, MirrorLeaves, OwnLeaves, HeardLeaves}
 use Rattle.play_nodes.specs.Showing.{is_pipeline, ElsewhereStays}
 use Rattle.play_primaries.specs.PlayReaders.Frames as readers
 use Rattle.play_primaries.specs.Frames as primaries
 use Rattle.play_recoveries.specs.Keeping.{KeepsPrimaries, KeepsServers, RecoveringEndsStay}
-use Rattle.play_recoveries.specs.Others.{OwnStepsKeepRecoveries, HearingKeepsRecoveries, DownKeepsRecoveries, ReadyKeepsRecoveries, MirrorKeepsRecoveries, AskingKeepsRecoveries, ReadingKeepsRecoveries, ServingKeepsRecoveries, SendingKeepsRecoveries}
+use Rattle.play_recoveries.specs.Others.{OwnStepsKeepRecoveries, HearingKeepsRecoveries, DownKeepsRecoveries, FaultKeepsRecoveries, ReadyKeepsRecoveries, MirrorKeepsRecoveries, AskingKeepsRecoveries, ReadingKeepsRecoveries, ServingKeepsRecoveries, SendingKeepsRecoveries}
 use Rattle.play_recoveries.proofs.ClientLaws.{no_writer_recovers, no_read_recovers}
 use Rattle.play_recoveries.proofs.FrameLaws.{recoveries_elsewhere}
 use Rattle.play_recoveries.proofs.KeepLaws.{none_between}
@@ -135,6 +136,16 @@ module _ {I O : Type 0} (i : link_in.Ghosts I) (o : link_out.Ghosts O) where
         ordered = ordered;
         primaries = keeps_primaries w events (keeps w conn answered);
         servers = elsewhere_servers w events (leaves w conn answered ordered (λ within. is));
+        ends = elsewhere_ends w net (run w events) made stays;
+      }
+
+  pub faults_kept : FaultLeaves → primaries.FaultKeepsPrimaries → FaultKeepsRecoveries i o
+  faults_kept leaves keeps w net made conn ordered is stays =
+      let events : List Event = event.Fault (delivery.Down conn) ∷ [] in
+      record {
+        ordered = ordered;
+        primaries = keeps_primaries w events (keeps w conn);
+        servers = elsewhere_servers w events (leaves w conn ordered (λ within. is));
         ends = elsewhere_ends w net (run w events) made stays;
       }
 

@@ -5,6 +5,7 @@ use Rattle.hd_base.specs.declared.links.LinkOut as link_out
 use Rattle.hd_base.specs.declared.numbers.BlockId.{BlockId}
 use Rattle.hd_base.specs.declared.numbers.ConnId.{ConnId}
 use Rattle.road_traffic.specs.Showing.{Net}
+use Rattle.world.specs.declared.events.Delivery.TheVariants as delivery
 use Rattle.world.specs.declared.events.Event.TheVariants as event
 use Rattle.world.specs.Events.{happens, run}
 use Rattle.world.specs.Parts.{by_writer, by_member}
@@ -44,6 +45,13 @@ DownKeepsRecoveries i o =
     is_pipeline (w.dialled conn.0).upper ≡ true →
     ElsewhereStays i o w net (happens w (event.Down conn answered)) made
     → KeepsRecoveries i o w net (happens w (event.Down conn answered)) made
+
+-- So does what it takes where a call on files fails in it.
+abbrev pub FaultKeepsRecoveries : {I O : Type 0} → link_in.Ghosts I → link_out.Ghosts O → Type 0
+FaultKeepsRecoveries i o =
+    (w : World) (net : Net) (made : Net) (conn : ConnId) → Ordered w → is_pipeline (w.dialled conn.0).upper ≡ true →
+    ElsewhereStays i o w net (happens w (event.Fault (delivery.Down conn))) made
+    → KeepsRecoveries i o w net (happens w (event.Fault (delivery.Down conn))) made
 
 abbrev pub ReadyKeepsRecoveries : {I O : Type 0} → link_in.Ghosts I → link_out.Ghosts O → Type 0
 ReadyKeepsRecoveries i o =

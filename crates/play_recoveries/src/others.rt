@@ -5,6 +5,7 @@ ghost use Rattle.play_recoveries.specs.Others.{
   OwnStepsKeepRecoveries,
   HearingKeepsRecoveries,
   DownKeepsRecoveries,
+  FaultKeepsRecoveries,
   ReadyKeepsRecoveries,
   MirrorKeepsRecoveries,
   AskingKeepsRecoveries,
@@ -31,6 +32,7 @@ pub fn writers_keep_recoveries<I: LinkIn, O: LinkOut>()
 /// So do the events of members.
 pub fn members_keep_recoveries<I: LinkIn, O: LinkOut>()
     ensures downs { DownKeepsRecoveries I.LinkIn O.LinkOut }
+    ensures faults { FaultKeepsRecoveries I.LinkIn O.LinkOut }
     ensures readies { ReadyKeepsRecoveries I.LinkIn O.LinkOut }
     ensures mirrors { MirrorKeepsRecoveries I.LinkIn O.LinkOut }
 {

@@ -9,20 +9,21 @@ use Rattle.play_laws.specs.PlayModel.ReadAsk.{ReadAsk}
 use Rattle.play_laws.specs.PlayModel.Due.{Due}
 use Rattle.play_laws.specs.PlayModel.Asks.{ask_at}
 use Rattle.play_laws.specs.PlayModel.Draws.{happened, advanced, drawn_from, draw, draws, Settles}
-use Rattle.play_laws.specs.PlayModel.Dues.{is_due, dues, after_due}
+use Rattle.play_laws.specs.PlayModel.Dues.{is_due, dues}
+use Rattle.play_laws.specs.PlayModel.Faults.{befalls}
 use Rattle.play_laws.specs.PlayModel.Lines.{stepped, step_due, stop_at, may_start, start_at, PlaysLine, PlaysLines, PlaysFrom, Plays, blocks_of}
 use Rattle.play_laws.specs.PlayModel.States.{PlayState, world_of, opened}
 use Rattle.play_scripts.specs.Reads.{is_read, read_numbers, readers_of}
 
 -- WHAT HAPPENS ASKS NOTHING
 
-after_ask : (p : PlayState) (d : Due) → (after_due p d).asks ≡ p.asks
-unfolding after_due
-after_ask p d = refl
+befalls_ask : (p : PlayState) (d : Due) → (befalls p d).asks ≡ p.asks
+unfolding befalls
+befalls_ask p d = refl
 
 happened_ask : (p : PlayState) (o : Option Due) → (happened p o).asks ≡ p.asks
 happened_ask p None = refl
-happened_ask p (Some d) = after_ask p d
+happened_ask p (Some d) = befalls_ask p d
 
 drawn_ask : (due : List Due) (p : PlayState) → (drawn_from due p).asks ≡ p.asks
 drawn_ask [] p = refl
@@ -42,7 +43,7 @@ either_ask false p q r e f = f
 
 step_ask : (p : PlayState) (o : Option Due) → (stepped p o).asks ≡ p.asks
 step_ask p None = refl
-step_ask p (Some d) = either_ask (is_due (world_of p) p.queues d) (after_due p d) p p (after_ask p d) refl
+step_ask p (Some d) = either_ask (is_due (world_of p) p.queues d) (befalls p d) p p (befalls_ask p d) refl
 
 stop_ask : (p : PlayState) (node : NodeId) → (stop_at p node).asks ≡ p.asks
 stop_ask p node = either_ask ((world_of p).running node.0) _ p p refl refl

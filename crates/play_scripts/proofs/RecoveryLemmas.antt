@@ -9,7 +9,8 @@ use Rattle.script_lang.specs.declared.instructions.ScriptLine.{ScriptLine}
 use Rattle.play_laws.specs.PlayModel.Recovery.{Recovery}
 use Rattle.play_laws.specs.PlayModel.Due.{Due}
 use Rattle.play_laws.specs.PlayModel.Draws.{happened, advanced, drawn_from, draw, draws, Settles}
-use Rattle.play_laws.specs.PlayModel.Dues.{is_due, dues, after_due}
+use Rattle.play_laws.specs.PlayModel.Dues.{is_due, dues}
+use Rattle.play_laws.specs.PlayModel.Faults.{befalls}
 use Rattle.play_laws.specs.PlayModel.Recoveries.{recovery_at, stopped_at}
 use Rattle.play_laws.specs.PlayModel.Lines.{stepped, step_due, stopped, stop_at, may_start, start_at, PlaysLine, PlaysLines, PlaysFrom, Plays, blocks_of}
 use Rattle.play_laws.specs.PlayModel.States.{PlayState, world_of, opened}
@@ -17,13 +18,13 @@ use Rattle.play_scripts.specs.Recoveries.{is_recovery, recovery_numbers, primari
 
 -- WHAT HAPPENS BRINGS NO RECOVERY
 
-after_recover : (p : PlayState) (d : Due) → (after_due p d).recoveries ≡ p.recoveries
-unfolding after_due
-after_recover p d = refl
+befalls_recover : (p : PlayState) (d : Due) → (befalls p d).recoveries ≡ p.recoveries
+unfolding befalls
+befalls_recover p d = refl
 
 happened_recover : (p : PlayState) (o : Option Due) → (happened p o).recoveries ≡ p.recoveries
 happened_recover p None = refl
-happened_recover p (Some d) = after_recover p d
+happened_recover p (Some d) = befalls_recover p d
 
 drawn_recover : (due : List Due) (p : PlayState) → (drawn_from due p).recoveries ≡ p.recoveries
 drawn_recover [] p = refl
@@ -43,7 +44,7 @@ either_recover false p q r e f = f
 
 step_recover : (p : PlayState) (o : Option Due) → (stepped p o).recoveries ≡ p.recoveries
 step_recover p None = refl
-step_recover p (Some d) = either_recover (is_due (world_of p) p.queues d) (after_due p d) p p (after_recover p d) refl
+step_recover p (Some d) = either_recover (is_due (world_of p) p.queues d) (befalls p d) p p (befalls_recover p d) refl
 
 same_number : (t : Bool) (r : Recovery) → (cond t (record r { may_begin = false }) r).primary ≡ r.primary
 same_number true r = refl

@@ -71,6 +71,7 @@ words_fit nodes (says.Append block members) f names = members_fit nodes members 
 words_fit nodes (says.Write block bytes) f names = f
 words_fit nodes (says.Read block at offset count) f names = names
 words_fit nodes (says.Recover block at members) f names = (names.0, members_fit nodes members f names.1)
+words_fit nodes (says.Fault at nth) f names = names
 words_fit nodes _ f names = tt
 
 -- a line behind the head leaves the number of nodes

@@ -242,7 +242,8 @@ module _ (number r : ℕ) where
       let b = at.before in
       record {
         before = b;
-        made = quiet (advanced (advanced m)) most b (line.Fault (record { 0 = drawn 5 m }) (1 + drawn 3 (advanced m))) refl (drew number _ most b (drew number m most b at.made)) (record { words = tt; kept = tt });
+        made = quiet (advanced (advanced m)) most b (line.Fault (record { 0 = drawn 5 m }) (1 + drawn 3 (advanced m))) refl (drew number _ most b (drew number m most b at.made))
+            (record { words = subst (λ d. IsNode d (record { 0 = drawn 5 m })) (sym at.is.nodes) (drawn_below m); kept = tt });
         is = at.is;
       }
 

@@ -40,9 +40,10 @@ is_told false e = cc
 line_told : (told : Bool) (i : Instruction) → is_unplayed told i ≡ false → LineIsTold told i
 line_told told (says.Start node) e = is_told told e
 line_told told (says.Read block node offset count) e = is_told told e
+line_told told (says.Fault node nth) e = is_told told e
 line_told told _ e = tt
 
--- Of lines that plays have the starts and the reads are over shelves that tell.
+-- Of lines that plays have the starts, the reads and the faults are over shelves that tell.
 pub played_told : (told : Bool) (lines : List ScriptLine) → ArePlayed told lines → LinesAreTold told lines
 played_told told [] played = tt
 played_told told (l ∷ lines) played = (line_told told l.instruction played.0, played_told told lines played.1)

@@ -22,8 +22,8 @@ pub record MembersFit (nodes : ℕ) (members : List NodeId) : Type 0 where
   pub formed : are_members members ≡ true
   pub below : AreAll (IsNode nodes) members
 
--- A line behind the first two: the members that it names are so, as is the node that it reads at, or that leads a
--- recovery; it has a chunk size that there is, and it writes bytes.
+-- A line behind the first two: the members that it names are so, as is the node that it reads at, that leads a
+-- recovery, or at which a write is to fail; it has a chunk size that there is, and it writes bytes.
 abbrev pub WordsFit : ℕ → Instruction → Type 0
 WordsFit nodes (says.Nodes count) = ⊥
 WordsFit nodes (says.Seed seed) = ⊥
@@ -33,6 +33,7 @@ WordsFit nodes (says.Append block members) = MembersFit nodes members
 WordsFit nodes (says.Write block bytes) = IsBytes bytes
 WordsFit nodes (says.Read block at offset count) = IsNode nodes at
 WordsFit nodes (says.Recover block at members) = IsNode nodes at × MembersFit nodes members
+WordsFit nodes (says.Fault node nth) = IsNode nodes node
 WordsFit nodes other = Unit {0}
 
 -- A line keeps this, and fits those before it.

@@ -16,7 +16,7 @@ pub fn scripts_fit()
     script_names_its_nodes();
 }
 
-/// Of lines that plays have the starts and the reads are over shelves that tell their files.
+/// Of lines that plays have the starts, the reads and the faults are over shelves that tell their files.
 pub fn played_lines_are_told()
     ensures { PlayedAreTold }
 {}

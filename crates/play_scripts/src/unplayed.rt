@@ -1,12 +1,12 @@
-//! The lines that plays don't have yet.
+//! The lines that plays have only over shelves that tell their files.
 
 ghost use Rattle.std.specs.Prelude.{◌≡◌, ◌↔◌, IsNone};
 ghost use Rattle.play_scripts.specs.Unplayed.{is_unplayed, first_unplayed, ArePlayed};
 
 use script_lang::{Instruction, ScriptLine};
 
-/// The number of the first line that plays don't have yet: a fault, and a start or a read where the shelves aren't told to
-/// tell their files.
+/// The number of the first line that plays don't have over these shelves: a start, a read or a fault, where the shelves
+/// don't tell their files.
 pub fn first_unplayed(told: bool, lines: &[ScriptLine]) -> Option<u64>
     ensures first { result ≡ first_unplayed told lines.now }
     ensures none { IsNone result ↔ ArePlayed told lines.now }
@@ -22,8 +22,7 @@ fn is_unplayed(told: bool, instruction: &Instruction) -> bool
     ensures { result ≡ is_unplayed told instruction.now }
 {
     match instruction {
-        Instruction::Start { .. } | Instruction::Read { .. } => !told,
-        Instruction::Fault { .. } => true,
+        Instruction::Start { .. } | Instruction::Read { .. } | Instruction::Fault { .. } => !told,
         _ => false,
     }
 }

@@ -5,4 +5,6 @@ pub mod Dialling
 pub mod Reading
 pub mod Primaries
 pub mod Recovering
+pub mod Failing
 pub mod Lowering
+pub mod Befalling

@@ -31,7 +31,7 @@ use Rattle.world.specs.Enabled.{acts_with, is_deed, is_question, can_down, can_r
 use Rattle.world.specs.Events.{changed, outcome, after_event, is_enabled, happens, run}
 use Rattle.world.specs.Safe.{Has}
 use Rattle.play_model.proofs.WorldLaws.FactTables.{and-right}
-use Rattle.play_model.proofs.WorldLaws.RunLaws.{idle-stays, runs-join}
+use Rattle.play_model.proofs.WorldLaws.RunLaws.{idle-stays}
 use Rattle.play_model.proofs.WorldLaws.StampGivens.{put-here, put-there}
 use Rattle.play_model.proofs.WorldLaws.TestLaws.{all-tested}
 use Rattle.world_settling.specs.WorldTexts.Texts.{AllFit}
@@ -54,9 +54,8 @@ use Rattle.play_model.specs.declared.recoveries.Recovery.{Recovery}
 use Rattle.play_model.specs.Asks.{request_of, asking_node}
 use Rattle.play_model.specs.Laws.{AreEnabled}
 use Rattle.play_model.specs.Recoveries.{primary_asks, begins_so, goes_on, all_answered, leads_events, primary_events, primary_due}
-use Rattle.play_model.specs.States.{world_of}
-use Rattle.play_model.specs.Dues.{Queues, is_open, is_open_above, own_due, asking, own_events, queue_left, action_of, due_events, queues_after, after_due}
-use Rattle.play_settling.specs.Settling.{queue_weight, ask_weight, leads_weight, writers_weight, reads_weight, play_weight, answered_so, events_so, weight_after, AreApart, AreNumbered, UpperAmong, CanHappen, DuesLower, PlaysLower}
+use Rattle.play_model.specs.Dues.{Queues, is_open, is_open_above, own_due, asking, own_events, queue_left, action_of, due_events, queues_after}
+use Rattle.play_settling.specs.Settling.{queue_weight, ask_weight, leads_weight, writers_weight, reads_weight, play_weight, answered_so, events_so, weight_after, AreApart, AreNumbered, UpperAmong, CanHappen, DuesLower}
 use Rattle.play_settling.proofs.Sums.{all-same, lowers-all, lowers-at, both-lower}
 use Rattle.play_settling.proofs.Staying.{IsOther, down-leaves, ready-leaves, up-leaves}
 use Rattle.play_settling.proofs.Steps.{is_plain, own-plain}
@@ -426,19 +425,10 @@ own-so (action.Answered n x) b queue = refl
 own-so action.Memory b queue = refl
 
 -- in a play dials are answered
-due-so : (w : World) (queues : Queues) (d : Due) → events_so w queues d true ≡ due_events w queues d
+pub due-so : (w : World) (queues : Queues) (d : Due) → events_so w queues d true ≡ due_events w queues d
 due-so w queues (due.Own b) = own-so (action_of w b) b.0 (queues b.0)
 due-so w queues (due.Reader ask) = refl
 due-so w queues (due.Primary r) = recovery-so (w.primaries r.primary) r true
 due-so w queues (due.Down c) = refl
 due-so w queues (due.Ready c) = refl
 due-so w queues (due.Up c) = refl
-
-pub plays-lower : PlaysLower
-unfolding after_due
-plays-lower blocks p d fit left h =
-    let w : World = world_of p in
-    let so : run w (events_so w p.queues d true) ≡ run (start p.nodes) (p.events ++ due_events w p.queues d) =
-    ap (λ (list : List Event). run w list) (due-so w p.queues d) ∙ sym (runs-join (start p.nodes) p.events (due_events w p.queues d)) in
-    subst (λ (v : World). play_weight v (queues_after w p.queues d) blocks p.asks p.recoveries < play_weight w p.queues blocks p.asks p.recoveries) so
-    (dues-lower p.nodes p.events p.queues blocks p.asks p.recoveries d true fit left h)

@@ -2,6 +2,7 @@
 use Rattle.std.proofs.Common.{◌≡◌, ℕ, Bool, true, false, Option, Some, None, IfSome, refl, ◌∙◌}
 use Rattle.std.specs.Prelude.{nat_lt}
 use Rattle.hd_base.specs.declared.numbers.ConnId.{ConnId}
+use Rattle.world.specs.declared.events.Delivery.TheVariants as delivery
 use Rattle.world.specs.declared.events.Event.{Event}
 use Rattle.world.specs.declared.events.Event.TheVariants as event
 use Rattle.world.specs.Parts.{Upper, by_writer, by_member, by_reader, by_primary, Writing}
@@ -74,6 +75,10 @@ after-stays w e (Some v) h a = h a
 pub down-leaves : (w : World) (c : ConnId) (answered : Bool) → Stays w (happens w (event.Down c answered))
 unfolding happens outcome
 down-leaves w c answered = after-stays w (event.Down c answered) (down_event w c.0 answered false) (down-stays w c.0 answered false)
+
+pub fault-leaves : (w : World) (c : ConnId) → Stays w (happens w (event.Fault (delivery.Down c)))
+unfolding happens outcome
+fault-leaves w c = after-stays w (event.Fault (delivery.Down c)) (down_event w c.0 false true) (down-stays w c.0 false true)
 
 pub ready-leaves : (w : World) (c : ConnId) → Stays w (happens w (event.Ready c))
 unfolding happens outcome

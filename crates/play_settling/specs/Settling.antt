@@ -23,7 +23,8 @@ use Rattle.play_model.specs.declared.dues.Due.TheVariants as due
 use Rattle.play_model.specs.declared.recoveries.Recovery.{Recovery}
 use Rattle.play_model.specs.Asks.{request_of}
 use Rattle.play_model.specs.States.{PlayState, world_of}
-use Rattle.play_model.specs.Dues.{Queues, is_unbegun, is_due, due_events, queues_after, after_due}
+use Rattle.play_model.specs.Dues.{Queues, is_unbegun, is_due, due_events, queues_after}
+use Rattle.play_model.specs.Faults.{befalls}
 use Rattle.play_model.specs.Laws.{IsDeed}
 
 -- HOW MUCH
@@ -140,6 +141,7 @@ DuesLower = (nodes : ℕ) (events : List Event) (queues : Queues) (blocks : List
     weight_after (run (start nodes) events) queues blocks asks rs d answered <
     play_weight (run (start nodes) events) queues blocks asks rs
 
+-- So it is in a play, where a write fails in it, too.
 abbrev pub PlaysLower : Type 0
 PlaysLower = (blocks : List ℕ) (p : PlayState) (d : Due) → AllFit p.events → (world_of p).office.next.0 ≤ 2 ^ 64 →
-    CanHappen (world_of p) p.queues blocks p.asks p.recoveries d → weight_of blocks (after_due p d) < weight_of blocks p
+    CanHappen (world_of p) p.queues blocks p.asks p.recoveries d → weight_of blocks (befalls p d) < weight_of blocks p

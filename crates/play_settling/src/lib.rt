@@ -2,6 +2,7 @@
 //! of the world of a play.
 #![tactic(auto)]
 
+ghost use Rattle.play_settling.specs.Failing.{WritesMayFail};
 ghost use Rattle.play_settling.specs.Settling.{ActOrAsk, DuesLower, PlaysLower};
 
 /// Where no answer of the office waits for a writer, its next step does something, asks the office or waits: it dials
@@ -17,7 +18,12 @@ pub fn dues_lower()
     ensures { DuesLower }
 {}
 
-/// So it is in a play: each thing that is due and happens makes less to be done.
+/// So it is in a play: each thing that is due and befalls makes less to be done, where a write fails in it, too.
 pub fn plays_lower()
     ensures { PlaysLower }
+{}
+
+/// Where a member's replica grows as it takes what stands next from above, the write that makes it grow may fail.
+pub fn writes_may_fail()
+    ensures { WritesMayFail }
 {}

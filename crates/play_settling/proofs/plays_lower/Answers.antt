@@ -1,4 +1,4 @@
-use Rattle.play_settling.proofs.Lowering.{plays-lower}
+use Rattle.play_settling.proofs.Befalling.{plays-lower}
 use Rattle.play_settling.proofs.plays_lower.Goals as goal
 
 pub returns : goal.returns

@@ -1,9 +1,12 @@
 -- The laws.
-use Rattle.play_recoveries.proofs.OtherLaws.{downs_kept, readies_kept, mirrors_kept}
+use Rattle.play_recoveries.proofs.OtherLaws.{downs_kept, faults_kept, readies_kept, mirrors_kept}
 use Rattle.play_recoveries.proofs.others.members_keep_recoveries.Goals as goal
 
 pub returns-clause-downs : goal.returns-clause-downs
 returns-clause-downs g c = downs_kept g.I.LinkIn g.O.LinkOut c.nodes_keep_elsewhere.ensures.down c.members_keep_primaries.ensures.downs
+
+pub returns-clause-faults : goal.returns-clause-faults
+returns-clause-faults g c = faults_kept g.I.LinkIn g.O.LinkOut c.nodes_keep_elsewhere.ensures.fault c.members_keep_primaries.ensures.faults
 
 pub returns-clause-readies : goal.returns-clause-readies
 returns-clause-readies g c = readies_kept g.I.LinkIn g.O.LinkOut c.nodes_keep_elsewhere.ensures.ready c.members_keep_primaries.ensures.readies

@@ -1,4 +1,4 @@
--- A start or a read is played only where the shelves tell.
+-- A start, a read or a fault is played only where the shelves tell.
 use Rattle.play_scripts.proofs.UnplayedLemmas.{played_told}
 use Rattle.play_scripts.proofs.laws.played_lines_are_told.Goals as goal
 
