@@ -52,7 +52,7 @@ record Behind (before : Before) (lines : ℕ) (commands : ℕ → List Command) 
 
 -- the same commands of each block
 played-as : (p : PlayState) (f g : ℕ → List Command) → ((b : ℕ) → f b ≡ g b) → Played p f → Played p g
-played-as p f g same h = record { asks = h.asks; recoveries = h.recoveries; plain = h.plain; quiet = h.quiet; peaceful = h.peaceful; links = h.links; writers = h.writers; blocks = λ b. subst (λ (cs : List Command). BlockPlayed (world_of p) b (p.queues b) cs) (same b) (h.blocks b) }
+played-as p f g same h = record { asks = h.asks; recoveries = h.recoveries; unarmed = h.unarmed; plain = h.plain; quiet = h.quiet; peaceful = h.peaceful; links = h.links; writers = h.writers; blocks = λ b. subst (λ (cs : List Command). BlockPlayed (world_of p) b (p.queues b) cs) (same b) (h.blocks b) }
 
 on-as : (p : PlayState) (f g : ℕ → List Command) → ((b : ℕ) → f b ≡ g b) → PlayedOn p f → PlayedOn p g
 on-as p f g same h = record { played = played-as p f g same h.played; names = h.names; ruled = h.ruled }
@@ -150,7 +150,7 @@ module _ (before : Before) (lines : ℕ) (p : PlayState) (commands : ℕ → Lis
       go false e = subst (λ (y : Bool). IsChunkSize (if y then rule else p.rules b).chunk) (sym e) (h.follows.chunks b)
 
   ruled-played : Played (ruled p at.0 rule) commands
-  ruled-played = record { asks = h.on.played.asks; recoveries = h.on.played.recoveries; plain = h.on.played.plain; quiet = h.on.played.quiet; peaceful = h.on.played.peaceful; links = h.on.played.links; writers = h.on.played.writers; blocks = h.on.played.blocks }
+  ruled-played = record { asks = h.on.played.asks; recoveries = h.on.played.recoveries; unarmed = h.on.played.unarmed; plain = h.on.played.plain; quiet = h.on.played.quiet; peaceful = h.on.played.peaceful; links = h.on.played.links; writers = h.on.played.writers; blocks = h.on.played.blocks }
 
   behind-rule : Behind Next (suc lines) commands (ruled p at.0 rule)
   behind-rule = record {
@@ -201,8 +201,12 @@ module _ (before : Before) (lines : ℕ) (commands : ℕ → List Command) where
         };
       }
 
+  -- no write is to fail
+  unarmed-behind : (p : PlayState) → Behind before lines commands p → (n : ℕ) → p.faults n ≡ 0
+  unarmed-behind p h = h.on.played.unarmed
+
   draws-behind : (blocks : List ℕ) (count : ℕ) (p : PlayState) → Behind before lines commands p → Behind before lines commands (draws blocks count p)
-  draws-behind blocks count p h = draws-keep (Behind before lines commands) due-behind words-behind blocks count p h
+  draws-behind blocks count p h = draws-keep (Behind before lines commands) due-behind words-behind unarmed-behind blocks count p h
 
   settles-behind : (blocks : List ℕ) (old new : PlayState) → Settles blocks old new → Behind before lines commands old → Behind before lines commands new
   settles-behind blocks old new s h = subst (Behind before lines commands) s.drawn_so (draws-behind blocks s.count old h)
@@ -289,7 +293,7 @@ module _ (blocks : List ℕ) (before : Before) (lines : ℕ) (commands : ℕ →
   line-behind number says.Settle u r fits k old new is h = none-more says.Settle new (λ b. refl) (settles-behind before lines commands blocks old new is h)
   line-behind number (says.Step at event) u r fits k old new is h =
       subst (Behind before (suc lines) (With commands (says.Step at event))) (sym is)
-      (none-more (says.Step at event) _ (λ b. refl) (stepped-keeps (Behind before lines commands) (due-behind before lines commands) (words-behind before lines commands) old (step_due (world_of old) at.0 event) (step-asked old (world_of old) at.0 event) h))
+      (none-more (says.Step at event) _ (λ b. refl) (stepped-keeps (Behind before lines commands) (due-behind before lines commands) (words-behind before lines commands) (unarmed-behind before lines commands) old (step_due (world_of old) at.0 event) (step-asked old (world_of old) at.0 event) h))
   line-behind number (says.Expect node at state stamp written) u r fits k old new is h =
       subst (Behind before (suc lines) (With commands (says.Expect node at state stamp written))) (sym is) (none-more (says.Expect node at state stamp written) old (λ b. refl) h)
   line-behind number (says.Read at node offset count) u r fits k old new is h = absurd (false≢true (sym r))

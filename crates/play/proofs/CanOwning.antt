@@ -21,7 +21,7 @@ use Rattle.writer_core.specs.Commands.{admitted, intake_after, is_unmade}
 use Rattle.writer_core.specs.Transitions.{own_step, has_step, is_connected}
 use Rattle.world.specs.declared.events.Event.{Event}
 use Rattle.world.specs.declared.events.TakenCommand.{TakenCommand}
-use Rattle.world.specs.Worlds.{World}
+use Rattle.world.specs.Worlds.{World, start}
 use Rattle.world.specs.Parts.{Told}
 use Rattle.world.specs.Enabled.{is_deed, is_question, acts_with}
 use Rattle.world.specs.Events.{happens, is_enabled}
@@ -114,7 +114,7 @@ first_of x command.Hflush j k same made e = tt
 first_of x command.Hsync j k same made e = tt
 first_of x command.Close j k same made e = tt
 
-module _ {F I O : Type 0} (i : link_in.Ghosts I) (o : link_out.Ghosts O) (L : Laws) (nodes : ℕ) (p : Player F I O) (h : EventsFit nodes p.nodes.blocks.items p.events.items) (few : nodes ≤ MAX_NODES) where
+module _ {F I O : Type 0} (i : link_in.Ghosts I) (o : link_out.Ghosts O) (L : Laws) (nodes : ℕ) (p : Player F I O) (h : EventsFit (start nodes) nodes p.nodes.blocks.items p.events.items) (few : nodes ≤ MAX_NODES) where
   -- the world of the play
   abbrev here : World
   here = world_of nodes p

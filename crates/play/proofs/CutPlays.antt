@@ -129,7 +129,7 @@ module _ {F R I O : Type 0} (f : files.Ghosts F) (r : roads.Ghosts R I O) (i : l
         shows = subst (λ (v : World). PlayerShows r i o v made queues road' (record old { events = new.events })) (sym world_is)
             (record { nodes = shows_there.nodes; reads = shows_there.reads; recoveries = shows_there.recoveries; clients = shows_there.clients; apart = shows_there.apart; office = shows_there.office; running = shows_there.running; slots = shows_there.slots });
         few = s.few;
-        events = subst (λ (es : List Event). EventsFit nodes old.nodes.blocks.items es) (sym more)
+        events = subst (λ (es : List Event). EventsFit (start nodes) nodes old.nodes.blocks.items es) (sym more)
             (fits_more nodes old.nodes.blocks.items old.events.items (losses conn down up) s.events
             (record { widths = (tt, (tt, tt)); names = (tt, (tt, tt)); among = (tt, (tt, tt)); whole = (tt, (tt, tt)) }));
         clients = λ k c at. subst (λ (v : World). ClientFits nodes old.nodes.blocks.items v c) (sym world_is) (fits_there c (s.clients k c at));

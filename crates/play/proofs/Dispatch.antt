@@ -1,5 +1,5 @@
 -- Who acts in what is due.
-use Rattle.std.proofs.Common.{◌≡◌, ◌⊎◌, inl, inr, ℕ, ◌<◌, ◌≤◌, ◌+◌, Bool, true, false, List, slice_get, option_map, Option, Some, None, Result, refl, sym, ap, ◌∙◌, subst, eqb-true, eq-eqb, arith}
+use Rattle.std.proofs.Common.{◌≡◌, ◌⊎◌, inl, inr, ℕ, ◌<◌, ◌≤◌, ◌+◌, Bool, true, false, List, slice_get, option_map, Option, Some, None, Result, Ok, Err, refl, sym, ap, ◌∙◌, subst, eqb-true, eq-eqb, arith}
 use Rattle.std.specs.Prelude.{◌==◌, is_some, not}
 use Rattle.std.proofs.lemmas.Bool.{and_parts, false≢true}
 use Rattle.std.proofs.lemmas.Option.{slice_get-map}
@@ -48,9 +48,9 @@ use Rattle.play.specs.declared.faults.PlayFault.{PlayFault}
 use Rattle.play.specs.declared.player.Player.{Player}
 use Rattle.play.specs.Laws.{Laws}
 use Rattle.play.specs.Showing.{IsClient}
-use Rattle.play.specs.Events.{BeginShows, DownShows, ReadyShows, MirrorShows, HeardShows, PlayEnds}
+use Rattle.play.specs.Events.{FilesTell, BeginShows, DownEnds, DownShows, ReadyShows, MirrorShows, HeardShows, PlayEnds}
 use Rattle.play.specs.Owning.{OwnShows}
-use Rattle.play.specs.Reading.{FilesTell, ReadsAreTold, AskShows, ReaderShows, TakeShows, SendShows}
+use Rattle.play.specs.Reading.{ReadsAreTold, AskShows, ReaderShows, TakeShows, SendShows}
 use Rattle.play.specs.Recovering.{LeadShows, PrimaryShows, AnswerShows}
 use Rattle.play.specs.Standing.{AskFits, RecoveryFits, world_of, PlayStands, ElsewhereShows, HappenEnds, HappenShows}
 use Rattle.play.proofs.CanOwning.{can_own}
@@ -101,11 +101,16 @@ unbegun_so (parts.has_read read) e = cc
 port_within : (nodes n : ℕ) → nodes ≤ MAX_NODES → n < nodes → FIRST_PORT + n ≤ MAX_PORT
 port_within nodes n few within = omega (arith, within, few)
 
-down_within : (w : World) (queues : Queues) (conn : ConnId) → is_due w queues (due.Down conn) ≡ true → conn.0 < w.next_conn
+pub down_within : (w : World) (queues : Queues) (conn : ConnId) → is_due w queues (due.Down conn) ≡ true → conn.0 < w.next_conn
 down_within w queues conn is = served_within w conn.0 (and_parts (is_served w conn.0) (takes_down (w.lowers conn.0) w conn.0 (next_down w conn.0)) (and_parts (is_open (w.lowers conn.0)) (can_down w conn.0) is).1).0
 
 ready_within : (w : World) (queues : Queues) (conn : ConnId) → is_due w queues (due.Ready conn) ≡ true → conn.0 < w.next_conn
 ready_within w queues conn is = served_within w conn.0 (and_parts (is_served w conn.0) (acts_below (w.lowers conn.0) w conn.0) (and_parts (is_open (w.lowers conn.0)) (can_ready w conn.0) is).1).0
+
+-- how it ended, without what was told
+abbrev pub forgotten : Result Bool PlayFault → Result (Unit {0}) PlayFault
+forgotten (Ok writes) = Ok tt
+forgotten (Err why) = Err why
 
 module _ {F R I O : Type 0} (f : files.Ghosts F) (r : roads.Ghosts R I O) (i : link_in.Ghosts I) (o : link_out.Ghosts O) (L : Laws) (old new : Player F I O) (road road' : R) (result : Result (Unit {0}) PlayFault) where
   -- a connection of a pipeline, and one that is none of it
@@ -143,12 +148,18 @@ module _ {F R I O : Type 0} (f : files.Ghosts F) (r : roads.Ghosts R I O) (i : l
       happened_so r i o L nodes queues old road s f (due.Down conn) is actor new road' result
       (shows w s.net queues s.shows piped (can_begin L nodes old s.events conn) is (subst (λ (b : Bool). IdleIs b w conn.0) first (tells w s.net queues s.shows.nodes.nodes_are (λ within. piped) is)))
 
-  pub members : (conn : ConnId) (away idle : Bool) → away ≡ false → TellsElsewhere i o conn old.nodes away → idle ≡ false → TellsIdle i o conn old.nodes idle → DownShows f r i o conn old new road road' result → HappenShows f r i o (due.Down conn) old new road road' result
-  members conn away idle here seen first tells shows = λ nodes queues s is actor told.
+  -- what a member took, where no write is refused
+  downed : (w : World) (queues : Queues) (conn : ConnId) (taken : Result Bool PlayFault) → DownEnds f r i o w queues conn false old new road road' taken → PlayEnds f r i o w queues (due.Down conn) old new road road' (forgotten taken)
+  downed w queues conn (Ok writes) h = h.is_left
+  downed w queues conn (Err why) h = h
+
+  pub members : (conn : ConnId) (away idle : Bool) (taken : Result Bool PlayFault) → forgotten taken ≡ result → away ≡ false → TellsElsewhere i o conn old.nodes away → idle ≡ false → TellsIdle i o conn old.nodes idle → DownShows f r i o conn false old new road road' taken → HappenShows f r i o (due.Down conn) old new road road' result
+  members conn away idle taken same here seen first tells shows = λ nodes queues s is actor told.
       let w : World = world_of nodes old in
       let piped = of_pipeline conn away here seen nodes queues s (down_within w queues conn is) in
       happened_so r i o L nodes queues old road s f (due.Down conn) is actor new road' result
-      (shows w s.net queues s.shows piped (lawful L nodes old s.events (event.Down conn true) (tt, tt)) is (subst (λ (b : Bool). IdleIs b w conn.0) first (tells w s.net queues s.shows.nodes.nodes_are (λ within. piped) is)))
+      (subst (λ (x : Result (Unit {0}) PlayFault). PlayEnds f r i o w queues (due.Down conn) old new road road' x) same
+      (downed w queues conn taken (shows w s.net queues s.shows piped (lawful L nodes old s.events (event.Down conn true) (tt, tt)) is (subst (λ (b : Bool). IdleIs b w conn.0) first (tells w s.net queues s.shows.nodes.nodes_are (λ within. piped) is)) (λ e. cc))))
 
   pub away_down : (conn : ConnId) (away : Bool) → away ≡ true → TellsElsewhere i o conn old.nodes away → ElsewhereShows f r i o conn (due.Down conn) old new road road' result → HappenShows f r i o (due.Down conn) old new road road' result
   away_down conn away there seen shows = λ nodes queues s is actor told.

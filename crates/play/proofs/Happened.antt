@@ -27,7 +27,9 @@ use Rattle.world.specs.Parts.{by_writer, by_member, by_reader, by_primary, Writi
 use Rattle.world.specs.Worlds.{World, start}
 use Rattle.world.specs.Events.{happens, run}
 use Rattle.play_model.proofs.WorldLaws.StampGivens.{put-here, put-there}
+use Rattle.node_stops.specs.PlayNodes.Frames.{FaultKeeps}
 use Rattle.node_stops.specs.WorldRequests.Requests.{IsAmong}
+use Rattle.world_writes.specs.Writes.{grows}
 use Rattle.play_model.specs.declared.dues.Due.{Due}
 use Rattle.play_model.specs.declared.dues.Due.TheVariants as due
 use Rattle.play_model.specs.Dues.{Queues, is_due, due_events, queues_after, own_events, queue_left, action_of, acting}
@@ -54,9 +56,9 @@ use Rattle.play.specs.declared.faults.PlayFault.{PlayFault}
 use Rattle.play.specs.declared.player.Player.{Player}
 use Rattle.play.specs.Laws.{Laws}
 use Rattle.play.specs.Showing.{IsClient, PlayerShows}
-use Rattle.play.specs.Events.{writer_at, actor_of, StaysAt, blocks_of, PlayerLeft, PlayEnds}
+use Rattle.play.specs.Events.{writer_at, actor_of, StaysAt, blocks_of, Happening, due_happens, write_fails, HappeningLeft, PlayEnds}
 use Rattle.play_laws.specs.Commands.{given_with, CommandsFit}
-use Rattle.play.specs.Standing.{ClientFits, EventsFit, AskFits, AsksFit, RecoveryFits, RecoveriesFit, world_of, PlayStands, HasHappened, HappenEnds, ActorIsClient}
+use Rattle.play.specs.Standing.{ClientFits, EventsFit, AskFits, AsksFit, RecoveryFits, RecoveriesFit, world_of, PlayStands, HasDone, HappenEnds, ActorIsClient}
 use Rattle.play.proofs.Lawful.{fits_more}
 use Rattle.play.proofs.RecoveryEvents.{recovery_kept}
 use Rattle.play.proofs.CanOwning.{takes_so}
@@ -210,10 +212,10 @@ module _ {F R I O : Type 0} (r : roads.Ghosts R I O) (i : link_in.Ghosts I) (o :
     first_names (t ∷ queue) fit = fit.0.names
 
     -- one event that takes this command, if any
-    acting_fits : (takes : Option TakenCommand) → IfSome takes (λ t. Names (IsNode nodes) t.command) → EventsFit nodes old.nodes.blocks.items (acting c.block.0 takes ∷ [])
+    acting_fits : (takes : Option TakenCommand) → IfSome takes (λ t. Names (IsNode nodes) t.command) → EventsFit here nodes old.nodes.blocks.items (acting c.block.0 takes ∷ [])
     acting_fits takes names = record { widths = (fits.width, tt); names = (names, tt); among = (fits.among, tt); whole = (tt, tt) }
 
-    own_fits : (a : Action) (queue : List TakenCommand) → CommandsFit nodes known.intake queue → EventsFit nodes old.nodes.blocks.items (own_events a c.block.0 queue)
+    own_fits : (a : Action) (queue : List TakenCommand) → CommandsFit nodes known.intake queue → EventsFit here nodes old.nodes.blocks.items (own_events a c.block.0 queue)
     own_fits action.Wait queue fit = acting_fits (slice_get queue 0) (first_names queue fit)
     own_fits (action.Ask call) queue fit = record { widths = (tt, (fits.width, tt)); names = (tt, (tt, tt)); among = (tt, (fits.among, tt)); whole = (tt, (tt, tt)) }
     own_fits action.Took queue fit = acting_fits None tt
@@ -244,34 +246,34 @@ module _ {F R I O : Type 0} (r : roads.Ghosts R I O) (i : link_in.Ghosts I) (o :
   }
 
   -- what a reader sends
-  asking_fits : (ask : ReadAsk) → AskFits nodes old.nodes.blocks.items ask → EventsFit nodes old.nodes.blocks.items (asking_node ask true ∷ [])
+  asking_fits : (ask : ReadAsk) → AskFits nodes old.nodes.blocks.items ask → EventsFit here nodes old.nodes.blocks.items (asking_node ask true ∷ [])
   unfolding request_of
   asking_fits ask h = record { widths = (h.asked, tt); names = (tt, tt); among = (h.among, tt); whole = (tt, tt) }
 
   -- what a primary does
-  leads_fit : (step : OwnStep) (rec : Recovery) → RecoveryFits nodes old.nodes.blocks.items rec → EventsFit nodes old.nodes.blocks.items (leads_events step rec)
+  leads_fit : (step : OwnStep) (rec : Recovery) → RecoveryFits nodes old.nodes.blocks.items rec → EventsFit here nodes old.nodes.blocks.items (leads_events step rec)
   leads_fit (step.Commits c) rec h = record { widths = (tt, (tt, tt)); names = (tt, (tt, tt)); among = (tt, (tt, tt)); whole = (tt, (tt, tt)) }
   leads_fit step.Waits rec h = record { widths = (tt, tt); names = (tt, tt); among = (tt, tt); whole = (tt, tt) }
   leads_fit (step.Updates c) rec h = record { widths = (tt, tt); names = (tt, tt); among = (tt, tt); whole = (tt, tt) }
   leads_fit (step.Ends e) rec h = record { widths = (tt, tt); names = (tt, tt); among = (tt, tt); whole = (tt, tt) }
 
-  begins_fit : (rec : Recovery) → RecoveryFits nodes old.nodes.blocks.items rec → EventsFit nodes old.nodes.blocks.items (primary_asks rec ∷ (begins_so rec (all_answered rec.members) ∷ []))
+  begins_fit : (rec : Recovery) → RecoveryFits nodes old.nodes.blocks.items rec → EventsFit here nodes old.nodes.blocks.items (primary_asks rec ∷ (begins_so rec (all_answered rec.members) ∷ []))
   begins_fit rec h = record { widths = (tt, (h.width, tt)); names = (tt, (tt, tt)); among = (tt, (h.among, tt)); whole = (tt, (tt, tt)) }
 
-  recovery_fits : (w : World) (p : parts.Primary) (rec : Recovery) → RecoveryFits nodes old.nodes.blocks.items rec → EventsFit nodes old.nodes.blocks.items (primary_events p rec)
+  recovery_fits : (w : World) (p : parts.Primary) (rec : Recovery) → RecoveryFits nodes old.nodes.blocks.items rec → EventsFit here nodes old.nodes.blocks.items (primary_events p rec)
   recovery_fits w (parts.leads l) rec h = leads_fit (recovery.own_step l.state).does rec h
   recovery_fits w parts.no_primary rec h = begins_fit rec h
   recovery_fits w (parts.was_told block told) rec h = begins_fit rec h
   recovery_fits w (parts.has_led e) rec h = begins_fit rec h
 
-  events_fit : (d : Due) → is_due here queues d ≡ true → ActorIsClient old d → EventsFit nodes old.nodes.blocks.items (due_events here queues d)
+  events_fit : (d : Due) → is_due here queues d ≡ true → ActorIsClient old d → EventsFit here nodes old.nodes.blocks.items (due_events here queues d)
   events_fit (due.Own b) is actor =
       let k : Actor b = actor_of_block b actor in
-      subst (λ (a : BlockId). EventsFit nodes old.nodes.blocks.items (due_events here queues (due.Own a))) k.block
+      subst (λ (a : BlockId). EventsFit here nodes old.nodes.blocks.items (due_events here queues (due.Own a))) k.block
       (own_fits k.client k.shows k.fits (subst (λ (a : BlockId). is_due here queues (due.Own a) ≡ true) (sym k.block) is) (action_of here k.client.block) (queues k.client.block.0) (queue_fits k.client k.shows k.fits))
-  events_fit (due.Reader ask) is actor = subst (λ (a : ReadAsk). EventsFit nodes old.nodes.blocks.items (due_events here queues (due.Reader a))) actor.asks
+  events_fit (due.Reader ask) is actor = subst (λ (a : ReadAsk). EventsFit here nodes old.nodes.blocks.items (due_events here queues (due.Reader a))) actor.asks
       (asking_fits actor.client.ask (s.asks actor.place actor.client.ask (slice_get-map (λ (c : ReadClient I O). c.ask) old.reads.clients.items actor.place ∙ ap (λ (x : Option (ReadClient I O)). option_map (λ (c : ReadClient I O). c.ask) x) actor.at)))
-  events_fit (due.Primary rec) is actor = subst (λ (a : Recovery). EventsFit nodes old.nodes.blocks.items (due_events here queues (due.Primary a))) actor.recovers
+  events_fit (due.Primary rec) is actor = subst (λ (a : Recovery). EventsFit here nodes old.nodes.blocks.items (due_events here queues (due.Primary a))) actor.recovers
       (recovery_fits here (here.primaries actor.client.recovery.primary) actor.client.recovery (s.recovers actor.place actor.client.recovery (slice_get-map (λ (c : PrimaryClient I O). c.recovery) old.recoveries.clients.items actor.place ∙ ap (λ (x : Option (PrimaryClient I O)). option_map (λ (c : PrimaryClient I O). c.recovery) x) actor.at)))
   events_fit (due.Down c) is actor = record { widths = (tt, tt); names = (tt, tt); among = (tt, tt); whole = (tt, tt) }
   events_fit (due.Ready c) is actor = record { widths = (tt, tt); names = (tt, tt); among = (tt, tt); whole = (tt, tt) }
@@ -293,10 +295,13 @@ module _ {F R I O : Type 0} (r : roads.Ghosts R I O) (i : link_in.Ghosts I) (o :
       by (of_primary n place e) = (L.told_others here c n place e).others.writers b
 
   -- What is left of a writer's commands fits; once it has acted its block was made.
-  record Fits (d : Due) (b : ℕ) : Type 0 where
-    fit : CommandsFit nodes (intake_of (run here (due_events here queues d)) b) (queues_after here queues d b)
-    made : actor_of here d ≡ Some b → is_unmade (intake_of (run here (due_events here queues d)) b).stand ≡ false
-    given : given_with (intake_of (run here (due_events here queues d)) b) (queues_after here queues d b) ≡ given_with (intake_of here b) (queues b)
+  pub record FitsAfter (h : Happening) (b : ℕ) : Type 0 where
+    pub fit : CommandsFit nodes (intake_of (run here h.events) b) (h.queues b)
+    pub made : h.actor ≡ Some b → is_unmade (intake_of (run here h.events) b).stand ≡ false
+    pub given : given_with (intake_of (run here h.events) b) (h.queues b) ≡ given_with (intake_of here b) (queues b)
+
+  abbrev Fits : Due → ℕ → Type 0
+  Fits d b = FitsAfter (due_happens here queues d) b
 
   still_fits : (d : Due) → is_due here queues d ≡ true → ActorIsClient old d → (b : ℕ) → (actor_of here d ≡ Some b → ⊥) → queues_after here queues d b ≡ queues b → CommandsFit nodes (intake_of here b) (queues b) → Fits d b
   still_fits d is actor b apart same fit = record {
@@ -354,14 +359,58 @@ module _ {F R I O : Type 0} (r : roads.Ghosts R I O) (i : link_in.Ghosts I) (o :
                 given = ap (λ (q : List TakenCommand). given_with (intake_of (run here (due_events here queues (due.Own x.client.block))) x.client.block.0) q) (put-here queues x.client.block.0 (queue_left (action_of here x.client.block) (queues x.client.block.0))) ∙ z.given;
               }
 
+  -- a writer that acts, or hears something, has a client
+  actor_client : (d : Due) → is_due here queues d ≡ true → ActorIsClient old d → (b : ℕ) → actor_of here d ≡ Some b → HasClient old.clients.items b
+  actor_client (due.Own a) is actor b e = subst (λ (n : ℕ). HasClient old.clients.items n) (same_Some a.0 b e) actor
+  actor_client (due.Reader ask) is actor b e = absurd (none-some b e)
+  actor_client (due.Primary rec) is actor b e = absurd (none-some b e)
+  actor_client (due.Down c) is actor b e = absurd (none-some b e)
+  actor_client (due.Ready c) is actor b e = absurd (none-some b e)
+  actor_client (due.Up c) is actor b e = by (upper_kind (here.dialled c.0).upper)
+    where
+      by : UpperKind (here.dialled c.0).upper → HasClient old.clients.items b
+      by (of_writer a k) = s.connected b c.0 (heard_conn here queues c b is (k ∙ ap by_writer (same_Some a b (sym (ap writer_at k) ∙ e))))
+      by (of_member m k) = absurd (none-some b (sym (ap writer_at k) ∙ e))
+      by (of_reader n k) = absurd (none-some b (sym (ap writer_at k) ∙ e))
+      by (of_primary n place k) = absurd (none-some b (sym (ap writer_at k) ∙ e))
+
+  -- What a play asks of what happens in it: its events fit, and what it leaves of each writer's commands; a writer that acts
+  -- has a client, and the others stay.
+  pub record CanHappen (h : Happening) : Type 0 where
+    pub events : EventsFit here nodes old.nodes.blocks.items h.events
+    pub fits : (b : ℕ) → CommandsFit nodes (intake_of here b) (queues b) → FitsAfter h b
+    pub stay : (b : ℕ) → (h.actor ≡ Some b → ⊥) → (run here h.events).writers b ≡ here.writers b
+    pub client : (b : ℕ) → h.actor ≡ Some b → HasClient old.clients.items b
+
+  pub due_can : (d : Due) → is_due here queues d ≡ true → ActorIsClient old d → CanHappen (due_happens here queues d)
+  due_can d is actor = record {
+    events = events_fit d is actor;
+    fits = fits_after d is actor;
+    stay = writers_stay d is actor;
+    client = actor_client d is actor;
+  }
+
+  -- A write that makes a replica grow may fail.
+  pub fault_can : FaultKeeps → (conn : ConnId) → grows here conn.0 ≡ true → CanHappen (write_fails queues conn)
+  fault_can keeps conn grown = record {
+    events = record { widths = (tt, tt); names = (tt, tt); among = (tt, tt); whole = (grown, tt) };
+    fits = λ b fit. record {
+      fit = subst (λ (x : Writing). CommandsFit nodes x.known.intake (queues b)) (sym ((keeps here conn).writers b)) fit;
+      made = λ e. absurd (none-some b e);
+      given = ap (λ (x : Writing). given_with x.known.intake (queues b)) ((keeps here conn).writers b);
+    };
+    stay = λ b apart. (keeps here conn).writers b;
+    client = λ b e. absurd (none-some b e);
+  }
+
   -- WHAT IS LEFT
 
-  module _ (d : Due) (is : is_due here queues d ≡ true) (actor : ActorIsClient old d) (new : Player F I O) (road' : R) (left : PlayerLeft r i o here queues d old new road') where
+  module _ (h : Happening) (can : CanHappen h) (new : Player F I O) (road' : R) (left : HappeningLeft r i o here h old new road') where
     abbrev there : World
-    there = run here (due_events here queues d)
+    there = run here h.events
 
     world_is : world_of nodes new ≡ there
-    world_is = ap (λ (es : List Event). run (start nodes) es) left.events ∙ L.joined (start nodes) old.events.items (due_events here queues d)
+    world_is = ap (λ (es : List Event). run (start nodes) es) left.events ∙ L.joined (start nodes) old.events.items h.events
 
     made_so : (writer : Option WriterRecord) (b : BlockId) (x : WriterRecord) → x ≡ known_of b writer → is_unmade x.intake.stand ≡ false → IfSome writer (λ y. is_unmade y.intake.stand ≡ false)
     made_so None b x same made = tt
@@ -377,58 +426,43 @@ module _ {F R I O : Type 0} (r : roads.Ghosts R I O) (i : link_in.Ghosts I) (o :
 
     client_fits : (k : ℕ) (c : Client I O) → slice_get new.clients.items k ≡ Some c → ClientFits nodes new.nodes.blocks.items there c
     client_fits k c at =
-        let z : StaysAt old.clients.items (actor_of here d) k c = left.places.each k c at in
+        let z : StaysAt old.clients.items h.actor k c = left.places.each k c at in
         let fits : ClientFits nodes old.nodes.blocks.items here z.was = s.clients k z.was z.at in
         let number : c.block.0 ≡ z.was.block.0 = ap (λ (b : BlockId). b.0) z.block in
-        let now : IsClient i o there left.made (queues_after here queues d) c = left.shows.clients k c at in
-        let after : Fits d z.was.block.0 = fits_after d is actor z.was.block.0 (queue_fits z.was (s.shows.clients k z.was z.at) fits) in
-        let after' : Fits d c.block.0 = subst (λ (n : ℕ). Fits d n) (sym number) after in
+        let now : IsClient i o there left.made h.queues c = left.shows.clients k c at in
+        let after : FitsAfter h z.was.block.0 = can.fits z.was.block.0 (queue_fits z.was (s.shows.clients k z.was z.at) fits) in
+        let after' : FitsAfter h c.block.0 = subst (λ (n : ℕ). FitsAfter h n) (sym number) after in
         record {
           among = subst (λ (bs : List BlockId). IsAmong bs c.block.0) (sym left.places.blocks) (subst (λ (n : ℕ). IsAmong old.nodes.blocks.items n) (sym number) fits.among);
           width = subst (λ (n : ℕ). n < 2 ^ 64) (sym number) fits.width;
           queue = subst (λ (q : List TakenCommand). CommandsFit nodes (intake_of there c.block.0) q) (sym now.queue) after'.fit;
-          made = by z (actor_or (actor_of here d) z.was.block.0) fits now after';
+          made = by z (actor_or h.actor z.was.block.0) fits now after';
         }
       where
-        by : (q : StaysAt old.clients.items (actor_of here d) k c) → (actor_of here d ≡ Some q.was.block.0) ⊎ (actor_of here d ≡ Some q.was.block.0 → ⊥) → ClientFits nodes old.nodes.blocks.items here q.was → IsClient i o there left.made (queues_after here queues d) c → Fits d c.block.0 → IfSome c.writer (λ x. is_unmade x.intake.stand ≡ false)
+        by : (q : StaysAt old.clients.items h.actor k c) → (h.actor ≡ Some q.was.block.0) ⊎ (h.actor ≡ Some q.was.block.0 → ⊥) → ClientFits nodes old.nodes.blocks.items here q.was → IsClient i o there left.made h.queues c → FitsAfter h c.block.0 → IfSome c.writer (λ x. is_unmade x.intake.stand ≡ false)
         by q (inl e) fits now after = made_so c.writer c.block (there.writers c.block.0).known now.shows.writer (after.made (e ∙ ap (λ (b : BlockId). Some b.0) (sym q.block)))
         by q (inr apart) fits now after = subst (λ (y : Client I O). IfSome y.writer (λ x. is_unmade x.intake.stand ≡ false)) (sym (q.same apart)) fits.made
 
-    -- a writer that acts, or hears something, has a client
-    actor_client : (d : Due) → is_due here queues d ≡ true → ActorIsClient old d → (b : ℕ) → actor_of here d ≡ Some b → HasClient old.clients.items b
-    actor_client (due.Own a) is actor b e = subst (λ (n : ℕ). HasClient old.clients.items n) (same_Some a.0 b e) actor
-    actor_client (due.Reader ask) is actor b e = absurd (none-some b e)
-    actor_client (due.Primary rec) is actor b e = absurd (none-some b e)
-    actor_client (due.Down c) is actor b e = absurd (none-some b e)
-    actor_client (due.Ready c) is actor b e = absurd (none-some b e)
-    actor_client (due.Up c) is actor b e = by (upper_kind (here.dialled c.0).upper)
-      where
-        by : UpperKind (here.dialled c.0).upper → HasClient old.clients.items b
-        by (of_writer a k) = s.connected b c.0 (heard_conn here queues c b is (k ∙ ap by_writer (same_Some a b (sym (ap writer_at k) ∙ e))))
-        by (of_member m k) = absurd (none-some b (sym (ap writer_at k) ∙ e))
-        by (of_reader n k) = absurd (none-some b (sym (ap writer_at k) ∙ e))
-        by (of_primary n place k) = absurd (none-some b (sym (ap writer_at k) ∙ e))
-
     connected : (b c : ℕ) → (there.writers b).conn ≡ Some c → HasClient new.clients.items b
-    connected b c has = has_moved new.clients.items old.clients.items b left.places.order (by (actor_or (actor_of here d) b))
+    connected b c has = has_moved new.clients.items old.clients.items b left.places.order (by (actor_or h.actor b))
       where
-        by : (actor_of here d ≡ Some b) ⊎ (actor_of here d ≡ Some b → ⊥) → HasClient old.clients.items b
-        by (inl e) = actor_client d is actor b e
-        by (inr apart) = s.connected b c (sym (ap (λ (x : Writing). x.conn) (writers_stay d is actor b apart)) ∙ has)
+        by : (h.actor ≡ Some b) ⊎ (h.actor ≡ Some b → ⊥) → HasClient old.clients.items b
+        by (inl e) = can.client b e
+        by (inr apart) = s.connected b c (sym (ap (λ (x : Writing). x.conn) (can.stay b apart)) ∙ has)
 
     -- the commands that are queued for a client's block
     client_queue : (b : ℕ) → HasClient old.clients.items b → CommandsFit nodes (intake_of here b) (queues b)
-    client_queue b h =
-        subst (λ (n : ℕ). CommandsFit nodes (intake_of here n) (queues n)) h.block (queue_fits h.client (s.shows.clients h.place h.client h.found) (s.clients h.place h.client h.found))
+    client_queue b at =
+        subst (λ (n : ℕ). CommandsFit nodes (intake_of here n) (queues n)) at.block (queue_fits at.client (s.shows.clients at.place at.client at.found) (s.clients at.place at.client at.found))
 
-    pub has_happened : HasHappened r i o nodes queues d old new road'
-    has_happened = record {
+    pub has_done : HasDone r i o nodes queues h old new road'
+    has_done = record {
       stands = record {
         net = left.made;
-        shows = subst (λ (v : World). PlayerShows r i o v left.made (queues_after here queues d) road' new) (sym world_is) left.shows;
+        shows = subst (λ (v : World). PlayerShows r i o v left.made h.queues road' new) (sym world_is) left.shows;
         few = s.few;
-        events = subst (λ (bs : List BlockId). EventsFit nodes bs new.events.items) (sym left.places.blocks)
-            (subst (λ (es : List Event). EventsFit nodes old.nodes.blocks.items es) (sym left.events) (fits_more nodes old.nodes.blocks.items old.events.items (due_events here queues d) s.events (events_fit d is actor)));
+        events = subst (λ (bs : List BlockId). EventsFit (start nodes) nodes bs new.events.items) (sym left.places.blocks)
+            (subst (λ (es : List Event). EventsFit (start nodes) nodes old.nodes.blocks.items es) (sym left.events) (fits_more nodes old.nodes.blocks.items old.events.items h.events s.events can.events));
         clients = λ k c at. subst (λ (v : World). ClientFits nodes new.nodes.blocks.items v c) (sym world_is) (client_fits k c at);
         asks = subst (λ (bs : List BlockId). AsksFit nodes bs (asks_of new.reads.clients.items)) (sym left.places.blocks) (subst (λ (xs : List ReadAsk). AsksFit nodes old.nodes.blocks.items xs) (sym left.places.asks) s.asks);
         recovers = subst (λ (bs : List BlockId). RecoveriesFit nodes bs (recoveries_of new.recoveries.clients.items)) (sym left.places.blocks) (subst (λ (xs : List Recovery). RecoveriesFit nodes old.nodes.blocks.items xs) (sym left.places.recovers) s.recovers);
@@ -436,9 +470,9 @@ module _ {F R I O : Type 0} (r : roads.Ghosts R I O) (i : link_in.Ghosts I) (o :
       };
       events = left.events;
       places = left.places;
-      given = λ b h. ap (λ (v : World). given_with (intake_of v b) (queues_after here queues d b)) world_is ∙ (fits_after d is actor b (client_queue b h)).given;
+      given = λ b at. ap (λ (v : World). given_with (intake_of v b) (h.queues b)) world_is ∙ (can.fits b (client_queue b at)).given;
     }
 
   pub happened_so : (f : files.Ghosts F) (d : Due) → is_due here queues d ≡ true → ActorIsClient old d → (new : Player F I O) (road' : R) (result : Result (Unit {0}) PlayFault) → PlayEnds f r i o here queues d old new road road' result → HappenEnds f r i o nodes queues d old new road road' result
-  happened_so f d is actor new road' (Ok u) left = has_happened d is actor new road' left
+  happened_so f d is actor new road' (Ok u) left = has_done (due_happens here queues d) (due_can d is actor) new road' left
   happened_so f d is actor new road' (Err why) h = h

@@ -14,8 +14,8 @@ use Rattle.world.specs.declared.events.Event.{Event}
 use Rattle.world.specs.declared.events.Event.TheVariants as event
 use Rattle.world.specs.Parts.{Primary, no_primary, was_told, leads, has_led}
 use Rattle.world.specs.Worlds.{World, start}
-use Rattle.world.specs.Events.{run}
-use Rattle.node_starts.specs.WorldBreaks.Breaks.{NoneFails}
+use Rattle.world.specs.Events.{happens, run}
+use Rattle.node_starts.specs.WorldBreaks.Breaks.{FaultsAreWrites}
 use Rattle.play_laws.specs.WorldOrders.Orders.{Ordered}
 use Rattle.node_stops.specs.WorldRequests.Requests.{AllAmong}
 use Rattle.play_laws.specs.WorldTexts.Texts.{Written, AllFit}
@@ -57,16 +57,16 @@ among_more : (blocks : List BlockId) (es fs : List Event) → AllAmong blocks es
 among_more blocks [] fs h k = k
 among_more blocks (e ∷ es) fs h k = (h.0, among_more blocks es fs h.1 k)
 
-whole_more : (es fs : List Event) → NoneFails es → NoneFails fs → NoneFails (es ++ fs)
-whole_more [] fs h k = k
-whole_more (e ∷ es) fs h k = (h.0, whole_more es fs h.1 k)
+whole_more : (w : World) (es fs : List Event) → FaultsAreWrites w es → FaultsAreWrites (run w es) fs → FaultsAreWrites w (es ++ fs)
+whole_more w [] fs h k = k
+whole_more w (e ∷ es) fs h k = (h.0, whole_more (happens w e) es fs h.1 k)
 
-pub fits_more : (nodes : ℕ) (blocks : List BlockId) (es fs : List Event) → EventsFit nodes blocks es → EventsFit nodes blocks fs → EventsFit nodes blocks (es ++ fs)
+pub fits_more : (nodes : ℕ) (blocks : List BlockId) (es fs : List Event) → EventsFit (start nodes) nodes blocks es → EventsFit (run (start nodes) es) nodes blocks fs → EventsFit (start nodes) nodes blocks (es ++ fs)
 fits_more nodes blocks es fs h k = record {
   widths = widths_more es fs h.widths k.widths;
   names = names_more (IsNode nodes) es fs h.names k.names;
   among = among_more blocks es fs h.among k.among;
-  whole = whole_more es fs h.whole k.whole;
+  whole = whole_more (start nodes) es fs h.whole k.whole;
 }
 
 -- There is room for stamps of as many events as a list can have, and more.
@@ -94,7 +94,7 @@ written_after : Laws → (nodes : ℕ) (es fs : List Event) → AllFit es → Al
 written_after L nodes es fs fit more small =
     subst Written (L.joined (start nodes) es fs) (L.written nodes (es ++ fs) (widths_more es fs fit more) (few_stamps (run (start nodes) (es ++ fs)).office.next.0 (FIRST_STAMP + length (es ++ fs)) (2 ^ 64) (L.few nodes (es ++ fs)) small))
 
-module _ {F I O : Type 0} (L : Laws) (nodes : ℕ) (p : Player F I O) (h : EventsFit nodes p.nodes.blocks.items p.events.items) where
+module _ {F I O : Type 0} (L : Laws) (nodes : ℕ) (p : Player F I O) (h : EventsFit (start nodes) nodes p.nodes.blocks.items p.events.items) where
   pub spelled : (fs : List Event) → AllFit fs → length fs ≤ 2 → Written (run (world_of nodes p) fs)
   spelled fs fit few = written_after L nodes p.events.items fs h.widths fit (room p fs few)
 

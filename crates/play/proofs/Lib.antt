@@ -5,6 +5,7 @@ pub mod Lawful
 pub mod CanOwning
 pub mod Happened
 pub mod Dispatch
+pub mod Befallen
 pub mod CutPlays
 pub mod StopPlays
 pub mod StartPlays

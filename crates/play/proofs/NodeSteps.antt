@@ -1,5 +1,5 @@
 -- An event of the nodes, and what it leaves of the clients and the office.
-use Rattle.std.proofs.Common.{◌≡◌, ◌⊎◌, inl, inr, refl, ℕ, true, false, [], ◌∷◌, ◌++◌, slice_get, Option, Some, None, IfSome, Result, Ok, Err, sym, ap, ◌∙◌, subst}
+use Rattle.std.proofs.Common.{◌≡◌, ◌⊎◌, inl, inr, refl, ℕ, Bool, true, false, [], ◌∷◌, ◌++◌, slice_get, Option, Some, None, IfSome, Result, Ok, Err, sym, ap, ◌∙◌, subst}
 use Rattle.hd_base.specs.declared.files.Files as files
 use Rattle.hd_base.specs.declared.links.LinkIn as link_in
 use Rattle.hd_base.specs.declared.links.LinkOut as link_out
@@ -8,10 +8,12 @@ use Rattle.hd_base.specs.declared.numbers.NodeId.{NodeId}
 use Rattle.hd_base.specs.Faults.{FaultsIncreased}
 use Rattle.hd_base.specs.declared.roads.Roads as roads
 use Rattle.road_traffic.specs.Showing.{Net}
+use Rattle.world.specs.declared.events.Delivery.TheVariants as delivery
 use Rattle.world.specs.declared.events.Event.{Event}
 use Rattle.world.specs.declared.events.Event.TheVariants as event
 use Rattle.world.specs.Parts.{Dialled, Marks, Writing, by_writer}
 use Rattle.world.specs.Worlds.{World}
+use Rattle.world.specs.Nodes.{node_of}
 use Rattle.world.specs.Events.{happens}
 use Rattle.node_stops.specs.WorldNets.Nets.{is_over}
 use Rattle.play_laws.specs.WorldOrders.Orders.{Ordered, IsWriterConn}
@@ -24,8 +26,9 @@ use Rattle.node_stops.specs.PlayNodes.Nodes.{Nodes}
 use Rattle.play_laws.specs.Nodes.{SameNodes, RunningStays}
 use Rattle.node_stops.specs.PlayNodes.Beginning as beginning
 use Rattle.node_stops.specs.PlayNodes.Events as nodes
-use Rattle.node_stops.specs.PlayNodes.Frames.{KeepsWriters, DownKeeps, ReadyKeeps, MirrorKeeps}
-use Rattle.node_stops.specs.PlayNodes.Showing.{runs_in, TellsRunning, NodesLeft, WritersStay, ElsewhereStays}
+use Rattle.node_stops.specs.PlayNodes.Refusing as refusing
+use Rattle.node_stops.specs.PlayNodes.Frames.{KeepsWriters, DownKeeps, FaultKeeps, ReadyKeeps, MirrorKeeps}
+use Rattle.node_stops.specs.PlayNodes.Showing.{is_pipeline, runs_in, TellsRunning, NodesLeft, WritersStay, ElsewhereStays}
 use Rattle.play_dues.specs.PlayReaders.Asks.{asks_of}
 use Rattle.play_dues.specs.PlayReads.Keeping.{KeepsReads}
 use Rattle.play_dues.specs.PlayRecoveries.Places.{recoveries_of}
@@ -39,7 +42,7 @@ use Rattle.play.specs.Laws.{PipelinesLeave}
 use Rattle.play.specs.Showing.{IsClient, PlayerShows}
 use Rattle.play.proofs.OthersLaws.{KeepsShown, reads_left, recoveries_left}
 use Rattle.hd_base.specs.RoadFaults.{RoadsFailed}
-use Rattle.play.specs.Events.{IsKept, Keeps, IsCaused, writer_at, blocks_of, KeepsPlaces, Begins, BeginShows, ReadyShows, DownShows, MirrorShows}
+use Rattle.play.specs.Events.{FilesTell, IsKept, Keeps, KeepsDown, down_event, DownLeft, IsCaused, writer_at, blocks_of, KeepsPlaces, Begins, BeginShows, ReadyShows, DownShows, MirrorShows}
 
 pub dialled_there : (dialled : ℕ → Dialled) (marks : ℕ → Marks) (b c : ℕ) (x : Writing) (n : Option ℕ) → n ≡ Some c → IfSome n (λ c. IsWriterConn (dialled c) (marks c).taken b x.known) → (dialled c).upper ≡ by_writer b
 dialled_there dialled marks b c x None is h = cc
@@ -143,18 +146,53 @@ module _ {F R I O : Type 0} (f : files.Ghosts F) (r : roads.Ghosts R I O) (i : l
       → ReadyShows f r i o conn old new road road' (Err (of_nodes why))
   ready_failed conn old new road road' why shows = λ w net queues p piped lawful is. caused old new road road' why (shows w net queues p.nodes (λ within. piped) lawful is)
 
-  pub down_left : (conn : ConnId) (old : Player F I O) (n' : Nodes F I O) (new : Player F I O) (road road' : R) (result : Result (Unit {0}) PlayFault) → n'.blocks.items ≡ old.nodes.blocks.items → ClientsStay i o → PipelinesLeave i o → DownKeeps → RunningStays → nodes.DownShows f r i o conn old.nodes n' road road' (Ok tt) → Keeps (record old { nodes = n' }) new (event.Down conn true) result
-      → DownShows f r i o conn old new road road' result
-  down_left conn old n' new road road' (Ok u) blocks stay K keeps runs shows kept = λ w net queues p piped lawful is busy.
+  pub down_left : (conn : ConnId) (old : Player F I O) (n' : Nodes F I O) (new : Player F I O) (road road' : R) (grew : Bool) (result : Result Bool PlayFault) → n'.blocks.items ≡ old.nodes.blocks.items → ClientsStay i o → PipelinesLeave i o → DownKeeps → RunningStays → nodes.DownShows f r i o conn old.nodes n' road road' (Ok grew) → KeepsDown (record old { nodes = n' }) new conn false grew result
+      → DownShows f r i o conn false old new road road' result
+  down_left conn old n' new road road' grew (Ok told) blocks stay K keeps runs shows kept = λ w net queues p piped lawful is busy tells.
+      let d = shows w net queues true p.nodes (λ within. piped) lawful is busy in
       let l : Left (happens w (event.Down conn true)) queues None old new (event.Down conn true) road' =
       left_of w (happens w (event.Down conn true)) net queues None old n' new (event.Down conn true) road road' blocks stay K p lawful.ordered (keeps w conn true) (runs w (event.Down conn true) tt)
-      (λ made stays. record { reads = K.down_reads w net made conn true lawful.ordered piped stays; recoveries = K.down_recoveries w net made conn true lawful.ordered piped stays }) (shows w net queues true p.nodes (λ within. piped) lawful is busy) kept in
-      record { made = l.made; shows = l.shows; events = l.events; places = l.places }
-  down_left conn old n' new road road' (Err why) blocks stay K keeps runs shows kept = λ w net queues p piped lawful is busy. out_of_memory old new road road' why kept
+      (λ made stays. record { reads = K.down_reads w net made conn true lawful.ordered piped stays; recoveries = K.down_recoveries w net made conn true lawful.ordered piped stays }) d.is_left kept.0 in
+      record { is_left = record { made = l.made; shows = l.shows; events = l.events; places = l.places }; grown = kept.1 ∙ d.grown }
+  down_left conn old n' new road road' grew (Err why) blocks stay K keeps runs shows kept = λ w net queues p piped lawful is busy tells. out_of_memory old new road road' why kept
 
   pub down_failed : (conn : ConnId) (old new : Player F I O) (road road' : R) (why : NodesFault) → nodes.DownShows f r i o conn old.nodes new.nodes road road' (Err why)
-      → DownShows f r i o conn old new road road' (Err (of_nodes why))
-  down_failed conn old new road road' why shows = λ w net queues p piped lawful is busy. caused old new road road' why (shows w net queues true p.nodes (λ within. piped) lawful is busy)
+      → DownShows f r i o conn false old new road road' (Err (of_nodes why))
+  down_failed conn old new road road' why shows = λ w net queues p piped lawful is busy tells. caused old new road road' why (shows w net queues true p.nodes (λ within. piped) lawful is busy)
+
+  -- WHERE WRITES ARE REFUSED
+
+  -- a node's files are told where all are
+  told_there : FilesTell f → (n : Nodes F I O) (node : ℕ) → refusing.AreTold f n node
+  told_there tells n node = λ place book at. tells book.drawer
+
+  -- one was, or none was
+  refused_or : (conn : ConnId) (old : Player F I O) (n' : Nodes F I O) (new : Player F I O) (w : World) (net : Net) (queues : Queues) (road road' : R) (refused : Bool) → n'.blocks.items ≡ old.nodes.blocks.items → ClientsStay i o → PipelinesLeave i o → DownKeeps → FaultKeeps → RunningStays → PlayerShows r i o w net queues road old
+      → is_pipeline (w.dialled conn.0).upper ≡ true → Ordered w → FilesTell f → refusing.RefusingEnds f r i o w net conn true old.nodes n' road road' (Ok refused) → IsKept (record old { nodes = n' }) new (down_event conn refused)
+      → DownLeft r i o w queues conn true refused old new road'
+  refused_or conn old n' new w net queues road road' true blocks stay K keeps fails runs p piped ordered tells k kept =
+      let e : Event = event.Fault (delivery.Down conn) in
+      let l : Left (happens w e) queues None old new e road' =
+      left_of w (happens w e) net queues None old n' new e road road' blocks stay K p ordered (fails w conn) (runs w e tt)
+      (λ made stays. record { reads = K.fault_reads w net made conn ordered piped stays; recoveries = K.fault_recoveries w net made conn ordered piped stays }) k.is_left kept in
+      record { is_left = record { made = l.made; shows = l.shows; events = l.events; places = l.places }; grown = sym (k.grown (told_there tells old.nodes (node_of w conn.0))) }
+  refused_or conn old n' new w net queues road road' false blocks stay K keeps fails runs p piped ordered tells k kept =
+      let e : Event = event.Down conn true in
+      let l : Left (happens w e) queues None old new e road' =
+      left_of w (happens w e) net queues None old n' new e road road' blocks stay K p ordered (keeps w conn true) (runs w e tt)
+      (λ made stays. record { reads = K.down_reads w net made conn true ordered piped stays; recoveries = K.down_recoveries w net made conn true ordered piped stays }) k.is_left kept in
+      record { is_left = record { made = l.made; shows = l.shows; events = l.events; places = l.places }; grown = sym (k.still (told_there tells old.nodes (node_of w conn.0))) }
+
+  pub refused_left : (conn : ConnId) (old : Player F I O) (n' : Nodes F I O) (new : Player F I O) (road road' : R) (refused : Bool) (result : Result Bool PlayFault) → n'.blocks.items ≡ old.nodes.blocks.items → ClientsStay i o → PipelinesLeave i o → DownKeeps → FaultKeeps → RunningStays → refusing.RefusingShows f r i o conn old.nodes n' road road' (Ok refused) → KeepsDown (record old { nodes = n' }) new conn refused refused result
+      → DownShows f r i o conn true old new road road' result
+  refused_left conn old n' new road road' refused (Ok told) blocks stay K keeps fails runs shows kept = λ w net queues p piped lawful is busy tells.
+      subst (λ (b : Bool). DownLeft r i o w queues conn true b old new road') (sym kept.1)
+      (refused_or conn old n' new w net queues road road' refused blocks stay K keeps fails runs p piped lawful.ordered (tells refl) (shows w net queues true p.nodes (λ within. piped) lawful is busy) kept.0)
+  refused_left conn old n' new road road' refused (Err why) blocks stay K keeps fails runs shows kept = λ w net queues p piped lawful is busy tells. out_of_memory old new road road' why kept
+
+  pub refusing_failed : (conn : ConnId) (old new : Player F I O) (road road' : R) (why : NodesFault) → refusing.RefusingShows f r i o conn old.nodes new.nodes road road' (Err why)
+      → DownShows f r i o conn true old new road road' (Err (of_nodes why))
+  refusing_failed conn old new road road' why shows = λ w net queues p piped lawful is busy tells. caused old new road road' why (shows w net queues true p.nodes (λ within. piped) lawful is busy)
 
   pub mirror_left : (conn : ConnId) (old : Player F I O) (n' : Nodes F I O) (new : Player F I O) (road road' : R) (result : Result (Unit {0}) PlayFault) → n'.blocks.items ≡ old.nodes.blocks.items → ClientsStay i o → PipelinesLeave i o → MirrorKeeps → RunningStays → nodes.UpShows f r i o conn old.nodes n' road road' (Ok tt) → Keeps (record old { nodes = n' }) new (event.Up conn) result
       → MirrorShows f r i o conn old new road road' result

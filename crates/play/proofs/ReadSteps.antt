@@ -38,10 +38,10 @@ use Rattle.play_dues.specs.PlayRecoveries.Places.{recoveries_of}
 use Rattle.play_dues.specs.PlayReads.Showing.{Stand}
 use Rattle.play.specs.declared.faults.PlayFault.{PlayFault}
 use Rattle.play.specs.declared.player.Player.{Player}
-use Rattle.play.specs.Events.{IsKept, Keeps, IsCaused, writer_at, blocks_of, KeepsPlaces}
+use Rattle.play.specs.Events.{FilesTell, IsKept, Keeps, IsCaused, writer_at, blocks_of, KeepsPlaces}
 use Rattle.play.specs.Faults.{of_reads}
 use Rattle.play.specs.Laws.{Laws, ReadsLeave}
-use Rattle.play.specs.Reading.{FilesTell, AskShows, ReaderShows, TakeShows, SendShows}
+use Rattle.play.specs.Reading.{AskShows, ReaderShows, TakeShows, SendShows}
 use Rattle.play.specs.Showing.{PlayerShows, PlayerStands}
 use Rattle.play.proofs.NodeSteps.{writing_of, clients_left, out_of_memory}
 use Rattle.play.proofs.OthersLaws.{recoveries_left}

@@ -12,7 +12,7 @@ use Rattle.world.specs.declared.events.Event.TheVariants as event
 use Rattle.world.specs.Parts.{Writing}
 use Rattle.world.specs.Worlds.{World, put, start}
 use Rattle.world.specs.Events.{happens, run}
-use Rattle.node_starts.specs.WorldBreaks.Breaks.{UnbrokenWithoutFaults}
+use Rattle.node_starts.specs.WorldBreaks.Breaks.{WholeAfterRefusedWrites}
 use Rattle.play_model.specs.Dues.{Queues}
 use Rattle.play_dues.specs.PlayClients.Client.{Client}
 use Rattle.play_dues.specs.PlayClients.Staying.{ClientsStay}
@@ -55,7 +55,7 @@ writers_kept w n within off =
 running_put : (w : World) (n : NodeId) → n.0 < w.nodes → w.running n.0 ≡ false → (m : ℕ) → (happens w (event.Restart n [])).running m ≡ put w.running n.0 true m
 running_put w n within off m = ap (λ (v : World). v.running m) (start_is w n [] within off)
 
-module _ {S F R I O : Type 0} (s : shelves.Ghosts S F) (f : files.Ghosts F) (r : roads.Ghosts R I O) (i : link_in.Ghosts I) (o : link_out.Ghosts O) (L : Laws) (whole : UnbrokenWithoutFaults) (lived : DialsAreLived) (clients_stay : ClientsStay i o) (reads_stay : StartsKeepReads i o) (recoveries_stay : StartsKeepRecoveries i o) where
+module _ {S F R I O : Type 0} (s : shelves.Ghosts S F) (f : files.Ghosts F) (r : roads.Ghosts R I O) (i : link_in.Ghosts I) (o : link_out.Ghosts O) (L : Laws) (whole : WholeAfterRefusedWrites) (lived : DialsAreLived) (clients_stay : ClientsStay i o) (reads_stay : StartsKeepReads i o) (recoveries_stay : StartsKeepRecoveries i o) where
   module _ (nodes : ℕ) (queues : Queues) (n : NodeId) (shelf : S) (old mid new : Player F I O) (n' : Nodes F I O) (road road' : R) (st : PlayStands r i o nodes queues road old) (below : n.0 < nodes) (off : (world_of nodes old).running n.0 ≡ false) (tells : NodeTells s f n shelf old.nodes) (shows : node.StartShows s f r i o n shelf old.nodes n' road road') (blocks : n'.blocks.items ≡ old.nodes.blocks.items)
       (started : IsStarted (record old { nodes = n' }) mid n) (kept : IsKept mid new (event.Restart n [])) where
     abbrev here : World
@@ -119,8 +119,8 @@ module _ {S F R I O : Type 0} (s : shelves.Ghosts S F) (f : files.Ghosts F) (r :
       net = left.made;
       shows = subst (λ (v : World). PlayerShows r i o v left.made queues road' after) (sym world_is) shows_there;
       few = st.few;
-      events = subst (λ (bs : List BlockId). EventsFit nodes bs new.events.items) (sym blocks)
-          (subst (λ (es : List Event). EventsFit nodes old.nodes.blocks.items es) (sym more)
+      events = subst (λ (bs : List BlockId). EventsFit (start nodes) nodes bs new.events.items) (sym blocks)
+          (subst (λ (es : List Event). EventsFit (start nodes) nodes old.nodes.blocks.items es) (sym more)
           (fits_more nodes old.nodes.blocks.items old.events.items (event.Restart n [] ∷ []) st.events (record { widths = (tt, tt); names = (tt, tt); among = (tt, tt); whole = (tt, tt) })));
       clients = λ k c at. subst (λ (v : World). ClientFits nodes n'.blocks.items v c) (sym world_is) (fits_there c (st.clients k c at));
       asks = subst (λ (bs : List BlockId). AsksFit nodes bs (asks_of old.reads.clients.items)) (sym blocks) st.asks;

@@ -187,8 +187,8 @@ module _ {F R I O : Type 0} (f : files.Ghosts F) (r : roads.Ghosts R I O) (i : l
       net = ended.left;
       shows = subst (λ (v : World). PlayerShows r i o v ended.left queues road' after) (sym world_is) shows_there;
       few = s.few;
-      events = subst (λ (bs : List BlockId). EventsFit nodes bs new.events.items) (sym blocks_are)
-          (subst (λ (es : List Event). EventsFit nodes old.nodes.blocks.items es) (sym more)
+      events = subst (λ (bs : List BlockId). EventsFit (start nodes) nodes bs new.events.items) (sym blocks_are)
+          (subst (λ (es : List Event). EventsFit (start nodes) nodes old.nodes.blocks.items es) (sym more)
           (fits_more nodes old.nodes.blocks.items old.events.items (event.Stop n ∷ []) s.events (record { widths = (tt, tt); names = (tt, tt); among = (tt, tt); whole = (tt, tt) })));
       clients = λ k c at. subst (λ (v : World). ClientFits nodes n'.blocks.items v c) (sym world_is) (fits_there c (s.clients k c at));
       asks = subst (λ (bs : List BlockId). AsksFit nodes bs (asks_of reads'.clients.items)) (sym blocks_are) (subst (λ (xs : List ReadAsk). AsksFit nodes old.nodes.blocks.items xs) (sym read_left.asks) s.asks);

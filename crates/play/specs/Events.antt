@@ -1,5 +1,5 @@
 -- What the events of a play make of a player and roads that show a world.
-use Rattle.std.specs.Prelude.{◌≡◌, ℕ, Bool, true, false, List, ◌++◌, [], ◌∷◌, map, slice_get, Option, Some, None, Result, Ok, Err}
+use Rattle.std.specs.Prelude.{◌≡◌, ℕ, Bool, true, false, List, ◌++◌, [], ◌∷◌, map, slice_get, Option, Some, None, IsSome, Result, Ok, Err}
 use Rattle.hd_base.specs.RoadFaults.{RoadsFailed}
 use Rattle.hd_base.specs.declared.files.Files as files
 use Rattle.hd_base.specs.declared.links.LinkIn as link_in
@@ -9,6 +9,7 @@ use Rattle.hd_base.specs.declared.numbers.ConnId.{ConnId}
 use Rattle.hd_base.specs.declared.numbers.NodeId.{NodeId}
 use Rattle.hd_base.specs.declared.roads.Roads as roads
 use Rattle.road_traffic.specs.Showing.{Net}
+use Rattle.world.specs.declared.events.Delivery.TheVariants as delivery
 use Rattle.world.specs.declared.events.Event.{Event}
 use Rattle.world.specs.declared.events.Event.TheVariants as event
 use Rattle.world.specs.Parts.{Upper, by_member, by_writer, idle}
@@ -20,6 +21,7 @@ use Rattle.play_model.specs.Dues.{Queues, is_due, due_events, queues_after}
 use Rattle.play_dues.specs.PlayClients.Client.{Client}
 use Rattle.play_dues.specs.PlayClients.Events.{HearIsLawful, AcceptedIsQuiet}
 use Rattle.node_stops.specs.PlayNodes.Nodes.{Nodes}
+use Rattle.world_writes.specs.Writes.{grows}
 use Rattle.node_stops.specs.PlayNodes.Beginning.{RequestsFit}
 use Rattle.node_stops.specs.PlayNodes.Events.{IsLawful, IsBusy, DrawerFailed}
 use Rattle.node_stops.specs.PlayNodes.Showing.{is_pipeline}
@@ -31,6 +33,10 @@ use Rattle.play.specs.declared.player.Player.{Player}
 use Rattle.play.specs.Running.{is_running}
 use Rattle.play.specs.Showing.{PlayerShows}
 
+-- All files of this kind are told.
+abbrev pub FilesTell : {F : Type 0} → files.Ghosts F → Type 0
+FilesTell {F} f = (x : F) → IsSome (f.files x)
+
 -- The event stands behind the others, and all else is as it was.
 pub record IsKept {F I O : Type 0} (old new : Player F I O) (e : Event) : Type 0 where
   pub same : new ≡ record old { events = new.events }
@@ -40,6 +46,17 @@ pub record IsKept {F I O : Type 0} (old new : Player F I O) (e : Event) : Type 0
 abbrev pub Keeps : {F I O : Type 0} → Player F I O → Player F I O → Event → Result (Unit {0}) PlayFault → Type 0
 Keeps old new e (Ok u) = IsKept old new e
 Keeps old new e (Err why) = why ≡ fault.Memory
+
+-- that a member took what stood next, or that a write failed in it
+abbrev pub down_event : ConnId → Bool → Event
+down_event conn true = event.Fault (delivery.Down conn)
+down_event conn false = event.Down conn true
+
+-- It was kept, and it is told whether a write came with it; or memory ran out.
+abbrev pub KeepsDown : {F I O : Type 0} → Player F I O → Player F I O → ConnId → Bool → Bool → Result Bool PlayFault →
+    Type 0
+KeepsDown old new conn fails writes (Ok told) = IsKept old new (down_event conn fails) × (told ≡ writes)
+KeepsDown old new conn fails writes (Err why) = why ≡ fault.Memory
 
 -- Each fault has its cause.
 abbrev pub IsCaused : {F R I O : Type 0} → files.Ghosts F → roads.Ghosts R I O → Player F I O → Player F I O → R → R →
@@ -81,13 +98,35 @@ pub record KeepsPlaces {F I O : Type 0} (actor : Option ℕ) (old new : Player F
   pub recovers : recoveries_of new.recoveries.clients.items ≡ recoveries_of old.recoveries.clients.items
   pub each : (k : ℕ) (c : Client I O) → slice_get new.clients.items k ≡ Some c → StaysAt old.clients.items actor k c
 
--- What is left once something that is due has happened: its events were kept, and the player shows the world after them.
-pub record PlayerLeft {F R I O : Type 0} (r : roads.Ghosts R I O) (i : link_in.Ghosts I) (o : link_out.Ghosts O)
-    (w : World) (queues : Queues) (d : Due) (old new : Player F I O) (road : R) : Type 0 where
+-- What happens: the events, the commands that are queued after them, and the block whose writer acts, if one does.
+pub record Happening : Type 0 where
+  pub events : List Event
+  pub queues : Queues
+  pub actor : Option ℕ
+
+-- something that is due happens
+abbrev pub due_happens : World → Queues → Due → Happening
+due_happens w queues d = record {
+  events = due_events w queues d;
+  queues = queues_after w queues d;
+  actor = actor_of w d;
+}
+
+-- a write on a data file fails at the lower end of a connection, in the place of what is due there
+abbrev pub write_fails : Queues → ConnId → Happening
+write_fails queues conn = record { events = event.Fault (delivery.Down conn) ∷ []; queues = queues; actor = None }
+
+-- What is left once this has happened: its events were kept, and the player shows the world after them.
+pub record HappeningLeft {F R I O : Type 0} (r : roads.Ghosts R I O) (i : link_in.Ghosts I) (o : link_out.Ghosts O)
+    (w : World) (h : Happening) (old new : Player F I O) (road : R) : Type 0 where
   pub made : Net
-  pub shows : PlayerShows r i o (run w (due_events w queues d)) made (queues_after w queues d) road new
-  pub events : new.events.items ≡ old.events.items ++ due_events w queues d
-  pub places : KeepsPlaces (actor_of w d) old new
+  pub shows : PlayerShows r i o (run w h.events) made h.queues road new
+  pub events : new.events.items ≡ old.events.items ++ h.events
+  pub places : KeepsPlaces h.actor old new
+
+abbrev pub PlayerLeft : {F R I O : Type 0} → roads.Ghosts R I O → link_in.Ghosts I → link_out.Ghosts O → World →
+    Queues → Due → Player F I O → Player F I O → R → Type 0
+PlayerLeft r i o w queues d old new road = HappeningLeft r i o w (due_happens w queues d) old new road
 
 -- How it ends: so, or by a fault that has its cause.
 abbrev pub PlayEnds : {F R I O : Type 0} → files.Ghosts F → roads.Ghosts R I O → link_in.Ghosts I → link_out.Ghosts O →
@@ -102,13 +141,32 @@ ReadyShows f r i o conn old new road road' result =
     is_pipeline (w.dialled conn.0).upper ≡ true → IsLawful w (event.Ready conn) → is_due w queues (due.Ready conn) ≡ true
     → PlayEnds f r i o w queues (due.Ready conn) old new road road' result
 
+-- What happens where a member takes what stands next from above: a write on its data file, if it comes with one, fails where
+-- such writes are refused.
+abbrev pub down_happens : World → Queues → ConnId → Bool → Bool → Happening
+down_happens w queues conn true true = write_fails queues conn
+down_happens w queues conn refuses writes = due_happens w queues (due.Down conn)
+
+-- That is left, and it is told whether a write came with it: whether the replica grew, or would have.
+pub record DownLeft {F R I O : Type 0} (r : roads.Ghosts R I O) (i : link_in.Ghosts I) (o : link_out.Ghosts O)
+    (w : World) (queues : Queues) (conn : ConnId) (refuses writes : Bool) (old new : Player F I O) (road : R) : Type 0 where
+  pub is_left : HappeningLeft r i o w (down_happens w queues conn refuses writes) old new road
+  pub grown : writes ≡ grows w conn.0
+
+abbrev pub DownEnds : {F R I O : Type 0} → files.Ghosts F → roads.Ghosts R I O → link_in.Ghosts I → link_out.Ghosts O →
+    World → Queues → ConnId → Bool → Player F I O → Player F I O → R → R → Result Bool PlayFault → Type 0
+DownEnds f r i o w queues conn refuses old new road road' (Ok writes) =
+    DownLeft r i o w queues conn refuses writes old new road'
+DownEnds f r i o w queues conn refuses old new road road' (Err why) = IsCaused f r old new road road' why
+
+-- A member takes what stands next from above. Where writes are refused all files are told.
 abbrev pub DownShows : {F R I O : Type 0} → files.Ghosts F → roads.Ghosts R I O → link_in.Ghosts I → link_out.Ghosts O →
-    ConnId → Player F I O → Player F I O → R → R → Result (Unit {0}) PlayFault → Type 0
-DownShows f r i o conn old new road road' result =
+    ConnId → Bool → Player F I O → Player F I O → R → R → Result Bool PlayFault → Type 0
+DownShows f r i o conn refuses old new road road' result =
     (w : World) (net : Net) (queues : Queues) → PlayerShows r i o w net queues road old →
     is_pipeline (w.dialled conn.0).upper ≡ true → IsLawful w (event.Down conn true) →
-    is_due w queues (due.Down conn) ≡ true → IsBusy w conn.0
-    → PlayEnds f r i o w queues (due.Down conn) old new road road' result
+    is_due w queues (due.Down conn) ≡ true → IsBusy w conn.0 → (refuses ≡ true → FilesTell f)
+    → DownEnds f r i o w queues conn refuses old new road road' result
 
 abbrev pub MirrorShows : {F R I O : Type 0} → files.Ghosts F → roads.Ghosts R I O → link_in.Ghosts I →
     link_out.Ghosts O → ConnId → Player F I O → Player F I O → R → R → Result (Unit {0}) PlayFault → Type 0

@@ -20,13 +20,13 @@ use Rattle.play_laws.specs.Taking.{CommandsTaken, UnmadeAreFresh}
 use Rattle.play_laws.specs.Writers.{AllRest, WritersOpen}
 use Rattle.play_settling.specs.Settling.{ActOrAsk}
 use Rattle.play_dues.specs.PlayClients.Others.{OwnStepsKeep, HearingKeeps}
-use Rattle.node_stops.specs.PlayNodes.Frames.{DownKeeps, ReadyKeeps, MirrorKeeps}
+use Rattle.node_stops.specs.PlayNodes.Frames.{DownKeeps, FaultKeeps, ReadyKeeps, MirrorKeeps}
 use Rattle.play_dues.specs.PlayReaders.Frames.{AskingKeepsOthers, HearingKeepsOthers}
 use Rattle.play_dues.specs.PlayPrimaries.Frames as primaries
-use Rattle.play_dues.specs.PlayReads.Keeping.{ReadsStay, OwnStepsKeepReads, HearingKeepsReads, DownKeepsReads, ReadyKeepsReads, MirrorKeepsReads, CutsKeepReads}
+use Rattle.play_dues.specs.PlayReads.Keeping.{ReadsStay, OwnStepsKeepReads, HearingKeepsReads, DownKeepsReads, FaultKeepsReads, ReadyKeepsReads, MirrorKeepsReads, CutsKeepReads}
 use Rattle.play_dues.specs.PlayReads.Keeping.{LeadingKeepsReads, AnswersKeepReads, AnsweringKeepsReads}
 use Rattle.play_dues.specs.PlayRecoveries.Keeping.{RecoveriesStay, CutsKeepRecoveries}
-use Rattle.play_dues.specs.PlayRecoveries.Others.{OwnStepsKeepRecoveries, HearingKeepsRecoveries, DownKeepsRecoveries, ReadyKeepsRecoveries, MirrorKeepsRecoveries}
+use Rattle.play_dues.specs.PlayRecoveries.Others.{OwnStepsKeepRecoveries, HearingKeepsRecoveries, DownKeepsRecoveries, FaultKeepsRecoveries, ReadyKeepsRecoveries, MirrorKeepsRecoveries}
 use Rattle.play_dues.specs.PlayRecoveries.Others.{AskingKeepsRecoveries, ReadingKeepsRecoveries, ServingKeepsRecoveries, SendingKeepsRecoveries}
 
 -- Each holds after every list of events.
@@ -57,6 +57,7 @@ pub record Laws : Type 0 where
   pub own_keeps : OwnStepsKeep
   pub heard_keeps : HearingKeeps
   pub down_keeps : DownKeeps
+  pub fault_keeps : FaultKeeps
   pub ready_keeps : ReadyKeeps
   pub mirror_keeps : MirrorKeeps
   pub readers : AllReadersTakeInOrder
@@ -74,6 +75,7 @@ pub record PipelinesLeave {I O : Type 0} (i : link_in.Ghosts I) (o : link_out.Gh
   pub own_reads : OwnStepsKeepReads i o
   pub heard_reads : HearingKeepsReads i o
   pub down_reads : DownKeepsReads i o
+  pub fault_reads : FaultKeepsReads i o
   pub ready_reads : ReadyKeepsReads i o
   pub mirror_reads : MirrorKeepsReads i o
   pub cut_reads : CutsKeepReads i o
@@ -81,6 +83,7 @@ pub record PipelinesLeave {I O : Type 0} (i : link_in.Ghosts I) (o : link_out.Gh
   pub own_recoveries : OwnStepsKeepRecoveries i o
   pub heard_recoveries : HearingKeepsRecoveries i o
   pub down_recoveries : DownKeepsRecoveries i o
+  pub fault_recoveries : FaultKeepsRecoveries i o
   pub ready_recoveries : ReadyKeepsRecoveries i o
   pub mirror_recoveries : MirrorKeepsRecoveries i o
   pub cut_recoveries : CutsKeepRecoveries i o

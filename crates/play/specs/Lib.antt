@@ -6,6 +6,7 @@ pub mod Reading
 pub mod Recovering
 pub mod Laws
 pub mod Standing
+pub mod Befalling
 pub mod Cutting
 pub mod Running
 pub mod Stopping

@@ -1,5 +1,5 @@
 -- What the events of readers, and of the lower ends of connections that they dialled, make of a play.
-use Rattle.std.specs.Prelude.{◌≡◌, ℕ, true, slice_get, Some, IsSome, Result}
+use Rattle.std.specs.Prelude.{◌≡◌, ℕ, true, slice_get, Some, Result}
 use Rattle.hd_base.specs.declared.files.Files as files
 use Rattle.hd_base.specs.declared.links.LinkIn as link_in
 use Rattle.hd_base.specs.declared.links.LinkOut as link_out
@@ -20,16 +20,12 @@ use Rattle.play_dues.specs.PlayReads.Owning.{OwnIsLawful}
 use Rattle.play_dues.specs.PlayReads.Serving.{ServesInOrder}
 use Rattle.play.specs.declared.faults.PlayFault.{PlayFault}
 use Rattle.play.specs.declared.player.Player.{Player}
-use Rattle.play.specs.Events.{PlayEnds}
+use Rattle.play.specs.Events.{FilesTell, PlayEnds}
 use Rattle.play.specs.Showing.{PlayerShows}
 
 -- FILES
 
--- All files of this kind are told.
-abbrev pub FilesTell : {F : Type 0} → files.Ghosts F → Type 0
-FilesTell {F} f = (x : F) → IsSome (f.files x)
-
--- So they are where there is a reader.
+-- Where there is a reader all files are told.
 abbrev pub ReadsAreTold : {F I O : Type 0} → files.Ghosts F → Player F I O → Type 0
 ReadsAreTold {F} {I} {O} f p =
     (k : ℕ) (c : ReadClient I O) → slice_get p.reads.clients.items k ≡ Some c → FilesTell f

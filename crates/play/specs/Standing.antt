@@ -12,7 +12,7 @@ use Rattle.writer_core.specs.Commands.{is_unmade}
 use Rattle.world.specs.declared.events.Event.{Event}
 use Rattle.world.specs.Worlds.{World, start}
 use Rattle.world.specs.Events.{run}
-use Rattle.node_starts.specs.WorldBreaks.Breaks.{NoneFails}
+use Rattle.node_starts.specs.WorldBreaks.Breaks.{FaultsAreWrites}
 use Rattle.node_stops.specs.WorldRequests.Requests.{IsAmong, AllAmong}
 use Rattle.play_laws.specs.WorldTexts.Texts.{AllFit, CanBeAsked}
 use Rattle.play_model.specs.declared.asks.ReadAsk.{ReadAsk}
@@ -20,7 +20,7 @@ use Rattle.play_model.specs.declared.recoveries.Recovery.{Recovery}
 use Rattle.play_model.specs.declared.dues.Due.{Due}
 use Rattle.play_model.specs.declared.dues.Due.TheVariants as due
 use Rattle.play_model.specs.Asks.{request_of}
-use Rattle.play_model.specs.Dues.{Queues, is_due, due_events, queues_after}
+use Rattle.play_model.specs.Dues.{Queues, is_due}
 use Rattle.play_laws.specs.Commands.{CommandsFit, given_with}
 use Rattle.play_laws.specs.Intakes.{intake_of}
 use Rattle.play_laws.specs.Members.{IsNode, AllName}
@@ -33,7 +33,7 @@ use Rattle.play_dues.specs.PlayRecoveries.Places.{recoveries_of, HasRecovery}
 use Rattle.play.specs.declared.faults.PlayFault.{PlayFault}
 use Rattle.play.specs.declared.player.Player.{Player}
 use Rattle.play.specs.Showing.{PlayerShows}
-use Rattle.play.specs.Events.{IsCaused, KeepsPlaces, actor_of}
+use Rattle.play.specs.Events.{Happening, IsCaused, KeepsPlaces, due_happens}
 use Rattle.play.specs.Reading.{ReadsAreTold}
 
 -- CLIENTS
@@ -48,12 +48,13 @@ pub record ClientFits {I O : Type 0} (nodes : ℕ) (blocks : List BlockId) (w : 
 
 -- EVENTS
 
--- Events of writers of these blocks, whose commands name only the first nodes, so many; no call on files fails in them.
-pub record EventsFit (nodes : ℕ) (blocks : List BlockId) (events : List Event) : Type 0 where
+-- Events, from this world on, of writers of these blocks, whose commands name only the first nodes, so many. Of the calls on
+-- files only writes fail in them that make a replica grow.
+pub record EventsFit (w : World) (nodes : ℕ) (blocks : List BlockId) (events : List Event) : Type 0 where
   pub widths : AllFit events
   pub names : AllName (IsNode nodes) events
   pub among : AllAmong blocks events
-  pub whole : NoneFails events
+  pub whole : FaultsAreWrites w events
 
 -- PLAYS
 
@@ -88,23 +89,28 @@ pub record PlayStands {F R I O : Type 0} (r : roads.Ghosts R I O) (i : link_in.G
   pub net : Net
   pub shows : PlayerShows r i o (world_of nodes p) net queues road p
   pub few : nodes ≤ MAX_NODES
-  pub events : EventsFit nodes p.nodes.blocks.items p.events.items
+  pub events : EventsFit (start nodes) nodes p.nodes.blocks.items p.events.items
   pub clients : (k : ℕ) (c : Client I O) → slice_get p.clients.items k ≡ Some c →
       ClientFits nodes p.nodes.blocks.items (world_of nodes p) c
   pub asks : AsksFit nodes p.nodes.blocks.items (asks_of p.reads.clients.items)
   pub recovers : RecoveriesFit nodes p.nodes.blocks.items (recoveries_of p.recoveries.clients.items)
   pub connected : (b c : ℕ) → ((world_of nodes p).writers b).conn ≡ Some c → HasClient p.clients.items b
 
--- What is left of a play in which something that is due has happened: its events stand behind the others, and what each
--- client's writer was given, with what is queued for it, is as before.
-pub record HasHappened {F R I O : Type 0} (r : roads.Ghosts R I O) (i : link_in.Ghosts I) (o : link_out.Ghosts O)
-    (nodes : ℕ) (queues : Queues) (d : Due) (old new : Player F I O) (road : R) : Type 0 where
-  pub stands : PlayStands r i o nodes (queues_after (world_of nodes old) queues d) road new
-  pub events : new.events.items ≡ old.events.items ++ due_events (world_of nodes old) queues d
-  pub places : KeepsPlaces (actor_of (world_of nodes old) d) old new
+-- What is left of a play in which this has happened: its events stand behind the others, and what each client's writer was
+-- given, with what is queued for it, is as before.
+pub record HasDone {F R I O : Type 0} (r : roads.Ghosts R I O) (i : link_in.Ghosts I) (o : link_out.Ghosts O)
+    (nodes : ℕ) (queues : Queues) (h : Happening) (old new : Player F I O) (road : R) : Type 0 where
+  pub stands : PlayStands r i o nodes h.queues road new
+  pub events : new.events.items ≡ old.events.items ++ h.events
+  pub places : KeepsPlaces h.actor old new
   pub given : (b : ℕ) → HasClient old.clients.items b →
-      given_with (intake_of (world_of nodes new) b) (queues_after (world_of nodes old) queues d b) ≡
-      given_with (intake_of (world_of nodes old) b) (queues b)
+      given_with (intake_of (world_of nodes new) b) (h.queues b) ≡ given_with (intake_of (world_of nodes old) b) (queues b)
+
+-- Something that was due has happened.
+abbrev pub HasHappened : {F R I O : Type 0} → roads.Ghosts R I O → link_in.Ghosts I → link_out.Ghosts O → ℕ → Queues →
+    Due → Player F I O → Player F I O → R → Type 0
+HasHappened r i o nodes queues d old new road =
+    HasDone r i o nodes queues (due_happens (world_of nodes old) queues d) old new road
 
 -- How it ends: so, or by a fault that has its cause.
 abbrev pub HappenEnds : {F R I O : Type 0} → files.Ghosts F → roads.Ghosts R I O → link_in.Ghosts I →

@@ -1,11 +1,11 @@
 //! The events of a play.
 
-ghost use Rattle.std.specs.Prelude.{◌≡◌, ◌<◌, length};
+ghost use Rattle.std.specs.Prelude.{◌≡◌, ◌<◌, false, length};
 ghost use Rattle.node_stops.specs.MemberEvents.Roads.{RoadsPass};
 ghost use Rattle.node_stops.specs.PlayNodes.Places.{KeepsSizes};
 ghost use Rattle.node_stops.specs.PlayNodes.Showing.{Stand};
 ghost use Rattle.play.specs.Showing.{PlayerStands};
-ghost use Rattle.play.specs.Events.{Keeps, Begins, BeginShows, ReadyShows, DownShows, MirrorShows, HeardShows};
+ghost use Rattle.play.specs.Events.{Keeps, KeepsDown, Begins, BeginShows, ReadyShows, DownShows, MirrorShows, HeardShows};
 
 use crate::faults::{PlayFault, of_client, of_nodes};
 use crate::laws::pipelines_leave_others;
@@ -15,7 +15,7 @@ use node_stops::{nodes_ends_stay, nodes_keep_writers, nodes_stay, writers_keep_n
 use play_dues::{clients_stay, hearing_keeps_others};
 use play_laws::running_stays;
 use std::alloc::Global;
-use world::Event;
+use world::{Delivery, Event};
 
 impl<F: Files, I: LinkIn, O: LinkOut> Player<F, I, O> {
     /// The member at the lower end of a connection acts without a message.
@@ -77,15 +77,16 @@ impl<F: Files, I: LinkIn, O: LinkOut> Player<F, I, O> {
         })
     }
 
-    /// The member at the lower end of a connection takes what stands next from above.
+    /// The member at the lower end of a connection takes what stands next from above. Answers whether its replica grew.
     pub fn member_down<R: Roads<Inward = I, Outward = O>>(
         &mut self,
         alloc: Global,
         roads: &mut R,
         conn: ConnId,
-    ) -> Result<(), PlayFault>
+    ) -> Result<bool, PlayFault>
         requires { Stand R.Roads I.LinkIn O.LinkOut roads.old self.old.nodes }
-        ensures shows { DownShows F.Files R.Roads I.LinkIn O.LinkOut conn self.old self.new roads.old roads.new result }
+        ensures shows { DownShows F.Files R.Roads I.LinkIn O.LinkOut conn false
+            self.old self.new roads.old roads.new result }
         ensures sizes { KeepsSizes self.old.nodes self.new.nodes }
         ensures pass { RoadsPass R.Roads roads.old roads.new }
     {
@@ -94,10 +95,7 @@ impl<F: Files, I: LinkIn, O: LinkOut> Player<F, I, O> {
         running_stays();
         clients_stay::<I, O>();
         match self.nodes.member_down(alloc, roads, conn) {
-            Ok(()) => self.keep(Event::Down {
-                conn,
-                answered: true,
-            }),
+            Ok(grew) => self.keep_down(conn, false, grew),
             Err(fault) => Err(of_nodes(fault)),
         }
     }
@@ -147,6 +145,33 @@ impl<F: Files, I: LinkIn, O: LinkOut> Player<F, I, O> {
         match self.clients[place].hear(alloc, roads, &mut self.office) {
             Ok(()) => self.keep(Event::Up { conn }),
             Err(fault) => Err(of_client(fault)),
+        }
+    }
+
+    /// Keeps that a member took what stood next, or that a write failed in it. Answers whether a write came with it.
+    pub(crate) fn keep_down(
+        &mut self,
+        conn: ConnId,
+        fails: bool,
+        writes: bool,
+    ) -> Result<bool, PlayFault>
+        ensures kept { KeepsDown self.old self.new conn fails writes result }
+        ensures nodes { self.new.nodes ≡ self.old.nodes }
+        ensures sizes { KeepsSizes self.old.nodes self.new.nodes }
+    {
+        let event = if fails {
+            Event::Fault {
+                delivery: Delivery::Down { conn },
+            }
+        } else {
+            Event::Down {
+                conn,
+                answered: true,
+            }
+        };
+        match self.keep(event) {
+            Ok(()) => Ok(writes),
+            Err(fault) => Err(fault),
         }
     }
 

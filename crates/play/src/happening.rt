@@ -120,7 +120,8 @@ impl<F: Files, I: LinkIn, O: LinkOut> Player<F, I, O> {
         if self.nodes.takes_first(conn) {
             self.begin(alloc, roads, conn)
         } else {
-            self.member_down(alloc, roads, conn)
+            self.member_down(alloc, roads, conn)?;
+            Ok(())
         }
     }
 

@@ -3,6 +3,7 @@
 //! event.
 #![tactic(auto)]
 
+mod befalling;
 mod cutting;
 mod events;
 mod faults;

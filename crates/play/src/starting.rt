@@ -12,7 +12,7 @@ use crate::faults::{PlayFault, of_start};
 use crate::laws::worlds_are_lawful;
 use crate::player::Player;
 use hd_base::{Files, LinkIn, LinkOut, NodeId, Roads, Shelf};
-use node_starts::{dials_are_of_lives_so_far, replicas_are_unbroken_without_faults, start_node};
+use node_starts::{dials_are_of_lives_so_far, refused_writes_leave_replicas_whole, start_node};
 use play_dues::{clients_stay, starts_keep_reads, starts_keep_recoveries};
 use std::alloc::Global;
 use world::{Event, FoundList};
@@ -46,7 +46,7 @@ impl<F: Files, I: LinkIn, O: LinkOut> Player<F, I, O> {
         ensures pass { RoadsPass R.Roads roads.old roads.new }
     {
         worlds_are_lawful();
-        replicas_are_unbroken_without_faults();
+        refused_writes_leave_replicas_whole();
         dials_are_of_lives_so_far();
         clients_stay::<I, O>();
         starts_keep_reads::<I, O>();

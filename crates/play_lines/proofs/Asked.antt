@@ -10,7 +10,7 @@ use Rattle.play_model.specs.States.{PlayState, asked}
 use Rattle.play_opening.specs.PlayReaders.ReadClient.{ReadClient}
 use Rattle.play_opening.specs.PlayReaders.Asks.{asks_of}
 use Rattle.play_opening.specs.PlayReads.Places.{ReadersBelow}
-use Rattle.play_opening.specs.Play.Reading.{FilesTell}
+use Rattle.play_opening.specs.Play.Events.{FilesTell}
 use Rattle.play_opening.specs.Play.Standing.{AskFits, AsksFit, world_of}
 use Rattle.play_lines.specs.declared.playing.Playing.{Playing}
 use Rattle.play_lines.specs.Asking.{AsksArePlays}
@@ -62,6 +62,7 @@ module _ {F R I O : Type 0} (f : files.Ghosts F) (r : roads.Ghosts R I O) (i : l
           nodes_are = is.nodes_are;
           events = is.events;
           generator = is.generator;
+          faults = is.faults;
           asks = h.joined.asks ∙ ap (λ (xs : List ReadAsk). xs ++ ask ∷ []) is.asks;
           told = each_more (λ a. FilesTell f) p.asks ask is.told tell;
           recovers = is.recovers;

@@ -41,10 +41,10 @@ use Rattle.play_lines.specs.Pipelines.{number_of, pipeline_at}
 use Rattle.play_lines.specs.Cutting.{CutShows}
 use Rattle.play_opening.specs.PlayReaders.Asks.{asks_of}
 use Rattle.play_opening.specs.PlayRecoveries.Places.{recoveries_of}
-use Rattle.play_lines.specs.Showing.{PlayIs, IsPlaying}
+use Rattle.play_lines.specs.Showing.{FaultsShow, PlayIs, IsPlaying}
 use Rattle.play_lines.proofs.Drawn.{world_same, dues_show}
 use Rattle.play_lines.proofs.Pipelined.{pipeline_told, conn_within}
-use Rattle.play_lines.proofs.StopLines.{both, silent}
+use Rattle.play_lines.proofs.SpentLemmas.{both, silent}
 
 -- the world in which a connection was cut, which is told of its last event
 abbrev left_by : World → World → ℕ → ℕ → ℕ → World
@@ -136,6 +136,7 @@ module _ {F R I O : Type 0} (f : files.Ghosts F) (r : roads.Ghosts R I O) (i : l
                 nodes_are = h.nodes_are ∙ ap (λ (x : Playing F I O). x.nodes) (sym rest);
                 events = events;
                 generator = ap (λ (x : Playing F I O). x.generator) rest ∙ h.generator;
+                faults = subst (λ (numbers : List ℕ). FaultsShow f p.nodes p.faults numbers) (ap (λ (x : Playing F I O). x.faults.items) (sym rest)) h.faults;
                 asks = ap (λ (x : Player F I O). asks_of x.reads.clients.items) has.same ∙ h.asks;
                 told = h.told;
                 recovers = ap (λ (x : Player F I O). recoveries_of x.recoveries.clients.items) has.same ∙ h.recovers;

@@ -1,4 +1,4 @@
--- What is drawn happens.
+-- What is drawn befalls.
 use Rattle.std.proofs.Common.{◌≡◌, inl, inr, ℕ, zero, suc, ◌≤◌, ◌<◌, ◌%◌, Bool, true, false, List, [], ◌∷◌, ◌++◌, drop, length, slice_get, option_map, Option, Some, None, Result, Ok, Err, refl, sym, ap, ◌∙◌, subst, arith}
 use Rattle.std.specs.Prelude.{is_some}
 use Rattle.std.proofs.lemmas.Option.{none-some, same_Some, slice_get-map}
@@ -19,7 +19,8 @@ use Rattle.play_model.specs.declared.recoveries.Recovery.{Recovery}
 use Rattle.play_model.specs.declared.dues.Due.{Due}
 use Rattle.play_model.specs.declared.dues.Due.TheVariants as due
 use Rattle.play_model.specs.Draws.{draw}
-use Rattle.play_model.specs.Dues.{is_due, dues, due_events, queues_after, after_due}
+use Rattle.play_model.specs.Dues.{is_due, dues, queues_after}
+use Rattle.play_model.specs.Faults.{Faults, write_node, number_at, run_down, befall_events, befall_faults, befalls}
 use Rattle.play_model.specs.Laws.{IsListed, ListedAreDue}
 use Rattle.play_scripts.specs.PlayLaws.Intakes.{intake_of}
 use Rattle.play_model.specs.States as states
@@ -46,10 +47,12 @@ use Rattle.play_opening.specs.Play.Reading.{ReadsAreTold}
 use Rattle.play_opening.specs.Play.Showing.{PlayerStands}
 use Rattle.play_opening.proofs.PlayProofs.Lawful.{are_placed}
 use Rattle.play_scripts.specs.PlayLaws.Commands.{given_with}
-use Rattle.play_opening.specs.Play.Standing.{world_of, PlayStands, HasHappened, HappenShows, ActorIsClient}
+use Rattle.play.specs.Befalling.{TellsFaults, FaultsAreTold, HasBefallen, BefallShows}
+use Rattle.play_opening.specs.Play.Standing.{world_of, PlayStands, ActorIsClient}
 use Rattle.play_lines.specs.declared.playing.Playing.{Playing}
 use Rattle.play_lines.specs.Drawing.{IsCaused, blocks_in, DrawEnds, DrawShows}
 use Rattle.play_lines.specs.Showing.{PlayIs, IsPlaying, given_in}
+use Rattle.play_lines.proofs.FailedWrites.{covers_befallen}
 
 -- the numbers of the same blocks
 pub numbers_same : {I O : Type 0} (xs ys : List (Client I O)) → player.blocks_of xs ≡ player.blocks_of ys → blocks_of xs ≡ blocks_of ys
@@ -92,13 +95,14 @@ module _ {F R I O : Type 0} (f : files.Ghosts F) (r : roads.Ghosts R I O) (i : l
       let d = dues_show L opens p road x h in
       refreshed (world_of p.nodes x.player) h.stands.net (record { nodes_are = d.stands.nodes_are; placed = d.orderly.placed; primaries = d.primaries; each = λ k c at. (d.each k c at).client_is; connected = d.connected; reads_are = d.reads_are; recoveries_are = d.recoveries_are }) h.live
 
-  -- it covers the world after what was due, too
-  pub covers_after : (L : Laws) → AllOpen → CoversOn → (p : PlayState) (road road' : R) (old new : Playing F I O) (d : Due) (live : LiveConns) → PlayIs f r i o p road old → is_due (world_of p.nodes old.player) p.queues d ≡ true → HasHappened r i o p.nodes p.queues d old.player new.player road' → Covers (world_of p.nodes old.player) live → Covers (world_of p.nodes new.player) live
+  -- it covers the world after what befell, too
+  pub covers_after : (L : Laws) → AllOpen → CoversOn → (p : PlayState) (road road' : R) (old new : Playing F I O) (d : Due) (live : LiveConns) → PlayIs f r i o p road old → is_due (world_of p.nodes old.player) p.queues d ≡ true → HasBefallen r i o p.nodes p.queues p.faults d new.faults.items old.player new.player road' → Covers (world_of p.nodes old.player) live → Covers (world_of p.nodes new.player) live
   covers_after L opens on p road road' old new d live h is has covers =
       let w : World = world_of p.nodes old.player in
-      let joined : world_of p.nodes new.player ≡ run w (due_events w p.queues d) = ap (λ (es : List Event). run (start p.nodes) es) has.events ∙ L.joined (start p.nodes) old.player.events.items (due_events w p.queues d) in
+      let events : List Event = befall_events w p.queues p.faults d in
+      let joined : world_of p.nodes new.player ≡ run w events = ap (λ (es : List Event). run (start p.nodes) es) has.done.events ∙ L.joined (start p.nodes) old.player.events.items events in
       let shows = dues_show L opens p road old h in
-      subst (λ (v : World). Covers v live) (sym joined) (on w p.queues d live shows.orderly shows.primaries is covers)
+      subst (λ (v : World). Covers v live) (sym joined) (covers_befallen w p.queues p.faults live covers d (on w p.queues d live shows.orderly shows.primaries is covers) is)
 
   -- the same play, whose roads were asked
   pub with_roads : (p : PlayState) (road road' : R) (x : Playing F I O) (h : PlayIs f r i o p road x) → DuesShow r i o (world_of p.nodes x.player) h.stands.net p.queues road' x.player.nodes x.player.clients.items x.player.reads x.player.recoveries → PlayIs f r i o p road' x
@@ -116,6 +120,7 @@ module _ {F R I O : Type 0} (f : files.Ghosts F) (r : roads.Ghosts R I O) (i : l
     nodes_are = h.nodes_are;
     events = h.events;
     generator = h.generator;
+    faults = h.faults;
     asks = h.asks;
     told = h.told;
     recovers = h.recovers;
@@ -157,46 +162,64 @@ module _ {F R I O : Type 0} (f : files.Ghosts F) (r : roads.Ghosts R I O) (i : l
       let is : PlayIs f r i o p road' old = with_roads p road road' old h t.0 in (
         record {
           is = subst (λ (q : PlayState). PlayIs f r i o q road' new) (sym (plays (blocks_in old) p new.generator None k ∙ ap (λ (g : Lcg). record p { generator = g }) gen))
-              (subst (λ (x : Playing F I O). PlayIs f r i o p road' x) (sym same) (record { stands = is.stands; nodes_are = is.nodes_are; events = is.events; generator = gen; asks = is.asks; told = is.told; recovers = is.recovers; formed = is.formed; rules = is.rules; live = covered (world_of p.nodes old.player) new.live current }));
+              (subst (λ (x : Playing F I O). PlayIs f r i o p road' x) (sym same) (record { stands = is.stands; nodes_are = is.nodes_are; events = is.events; generator = gen; faults = is.faults; asks = is.asks; told = is.told; recovers = is.recovers; formed = is.formed; rules = is.rules; live = covered (world_of p.nodes old.player) new.live current }));
           blocks = ap blocks_in same;
           given = λ b h'. ap (λ (q : PlayState). given_in q b) (plays (blocks_in old) p new.generator None k ∙ ap (λ (g : Lcg). record p { generator = g }) gen);
         },
         sym (ap (λ (ds : List Due). is_some (slice_get ds 0)) empty),
       )
 
-  -- SOMETHING HAPPENS
+  -- SOMETHING BEFALLS
+
+  -- where a write is to fail one was to fail before
+  told_after : (faults : Faults) (node : Option ℕ) → FaultsAreTold f faults → FaultsAreTold f (run_down (number_at faults node) node faults)
+  told_after faults None told = told
+  told_after faults (Some n) told = by (faults n) refl
+    where
+      none_left : (left : ℕ) → faults n ≡ suc left → faults n ≡ 0 → ⊥
+      none_left left e none = omega (arith, e, none)
+
+      by : (number : ℕ) → faults n ≡ number → FaultsAreTold f (run_down number (Some n) faults)
+      by zero e = told
+      by (suc left) e = λ node some. told n (none_left left e)
 
   rules_after : (p : PlayState) (old new : Playing F I O) (actor : Option ℕ) → KeepsPlaces actor old.player new.player → ((k : ℕ) (c : Client I O) → slice_get old.player.clients.items k ≡ Some c → c.rule ≡ p.rules c.block.0) → (k : ℕ) (c : Client I O) → slice_get new.player.clients.items k ≡ Some c → c.rule ≡ p.rules c.block.0
   rules_after p old new actor places rules k c at =
       let z = places.each k c at in
       z.rule ∙ (rules k z.was z.at ∙ ap (λ (b : BlockId). p.rules b.0) (sym z.block))
 
-  pub after : (p : PlayState) (road road' : R) (old new : Playing F I O) (d : Due) (g : Lcg) → new.nodes ≡ old.nodes → PlayIs f r i o p road old → HasHappened r i o p.nodes p.queues d old.player new.player road' → new.generator ≡ g → Covers (world_of p.nodes new.player) new.live → PlayIs f r i o (after_due (record p { generator = g }) d) road' new
-  unfolding after_due
-  after p road road' old new d g nodes h has generator covers =
+  pub after : (p : PlayState) (road road' : R) (old new : Playing F I O) (d : Due) (g : Lcg) → new.nodes ≡ old.nodes → length new.faults.items ≡ length old.faults.items → PlayIs f r i o p road old → HasBefallen r i o p.nodes p.queues p.faults d new.faults.items old.player new.player road' → new.generator ≡ g → Covers (world_of p.nodes new.player) new.live
+      → PlayIs f r i o (befalls (record p { generator = g }) d) road' new
+  unfolding befalls
+  after p road road' old new d g nodes count h has generator covers =
       let same : states.world_of p ≡ world_of p.nodes old.player = world_same p road old h in
       record {
-        stands = subst (λ (w : World). PlayStands r i o p.nodes (queues_after w p.queues d) road' new.player) (sym same) has.stands;
+        stands = subst (λ (w : World). PlayStands r i o p.nodes (queues_after w p.queues d) road' new.player) (sym same) has.done.stands;
         nodes_are = h.nodes_are ∙ sym nodes;
-        events = ap (λ (w : World). p.events ++ due_events w p.queues d) same ∙ (ap (λ (es : List Event). es ++ due_events (world_of p.nodes old.player) p.queues d) h.events ∙ sym has.events);
+        events = ap (λ (w : World). p.events ++ befall_events w p.queues p.faults d) same ∙ (ap (λ (es : List Event). es ++ befall_events (world_of p.nodes old.player) p.queues p.faults d) h.events ∙ sym has.done.events);
         generator = generator;
-        asks = has.places.asks ∙ h.asks;
+        faults = record {
+          count = count ∙ h.faults.count;
+          tells = subst (λ (w : World). TellsFaults (befall_faults w p.faults d) new.faults.items) (sym same) has.numbers_are;
+          told = told_after p.faults (write_node (states.world_of p) d) h.faults.told;
+        };
+        asks = has.done.places.asks ∙ h.asks;
         told = h.told;
-        recovers = has.places.recovers ∙ h.recovers;
+        recovers = has.done.places.recovers ∙ h.recovers;
         formed = h.formed;
-        rules = rules_after p old new _ has.places h.rules;
+        rules = rules_after p old new _ has.done.places h.rules;
         live = covers;
       }
 
   -- what was given stays
-  pub given_after : (p : PlayState) (road road' : R) (old new : Playing F I O) (d : Due) (g : Lcg) → PlayIs f r i o p road old → PlayIs f r i o (after_due (record p { generator = g }) d) road' new → HasHappened r i o p.nodes p.queues d old.player new.player road' → (b : ℕ) → HasClient old.player.clients.items b → given_in (after_due (record p { generator = g }) d) b ≡ given_in p b
-  unfolding after_due
+  pub given_after : (p : PlayState) (road road' : R) (old new : Playing F I O) (d : Due) (g : Lcg) → PlayIs f r i o p road old → PlayIs f r i o (befalls (record p { generator = g }) d) road' new → HasBefallen r i o p.nodes p.queues p.faults d new.faults.items old.player new.player road' → (b : ℕ) → HasClient old.player.clients.items b → given_in (befalls (record p { generator = g }) d) b ≡ given_in p b
+  unfolding befalls
   given_after p road road' old new d g before now has b k =
       let was : states.world_of p ≡ world_of p.nodes old.player = world_same p road old before in
-      let is : states.world_of (after_due (record p { generator = g }) d) ≡ world_of p.nodes new.player = world_same (after_due (record p { generator = g }) d) road' new now in
+      let is : states.world_of (befalls (record p { generator = g }) d) ≡ world_of p.nodes new.player = world_same (befalls (record p { generator = g }) d) road' new now in
       ap (λ (w : World). given_with (intake_of w b) (queues_after (states.world_of p) p.queues d b)) is ∙
       (ap (λ (w : World). given_with (intake_of (world_of p.nodes new.player) b) (queues_after w p.queues d b)) was ∙
-      (has.given b k ∙ ap (λ (w : World). given_with (intake_of w b) (p.queues b)) (sym was)))
+      (has.done.given b k ∙ ap (λ (w : World). given_with (intake_of w b) (p.queues b)) (sym was)))
 
   some_listed : (ds : List Due) (old after : Lcg) (d : Due) → DrawsFrom ds old after (Some d) → (k : ℕ) × (slice_get ds k ≡ Some d)
   some_listed [] old after d h = absurd (none-some d (sym h.1))
@@ -206,7 +229,7 @@ module _ {F R I O : Type 0} (f : files.Ghosts F) (r : roads.Ghosts R I O) (i : l
   some_first [] k d e = absurd (none-some d e)
   some_first (x ∷ ds) k d e = refl
 
-  -- a fault in what happens is one of the draw
+  -- a fault in what befalls is one of the draw
   failed_book : (before now : ℕ) → FaultsIncreased before now → 0 < now
   failed_book before now h = grind (arith, h)
 
@@ -247,11 +270,11 @@ module _ {F R I O : Type 0} (f : files.Ghosts F) (r : roads.Ghosts R I O) (i : l
   pub reads_told : (p : PlayState) (road : R) (x : Playing F I O) → PlayIs f r i o p road x → ReadsAreTold f x.player
   reads_told p road x h k c at = h.told k c.ask (ap (λ (xs : List ReadAsk). slice_get xs k) (sym h.asks) ∙ (slice_get-map (λ (a : ReadClient I O). a.ask) x.player.reads.clients.items k ∙ ap (λ (y : Option (ReadClient I O)). option_map (λ (a : ReadClient I O). a.ask) y) at))
 
-  -- what is drawn, and happens
+  -- what is drawn, and befalls
   record Draws (p : PlayState) (old mid : Playing F I O) (d : Due) (first : R) : Type 0 where
     is : PlayIs f r i o p first old
     current : IsCurrent (world_of p.nodes old.player) mid.live
-    play_is : draw (blocks_in old) p ≡ after_due (record p { generator = mid.generator }) d
+    play_is : draw (blocks_in old) p ≡ befalls (record p { generator = mid.generator }) d
     due_is : is_due (world_of p.nodes old.player) p.queues d ≡ true
     actor : ActorIsClient old.player d
     more : true ≡ is_some (slice_get (dues (blocks_in old) p) 0)
@@ -272,27 +295,27 @@ module _ {F R I O : Type 0} (f : files.Ghosts F) (r : roads.Ghosts R I O) (i : l
         more = some_first (dues (blocks_in old) p) at.0 d at.1;
       }
 
-  pub drew : (L : Laws) → AllOpen → DuesAreListed → PlaysAreDrawn → ListedAreDue → CurrentCovers → CoversOn → (old mid new : Playing F I O) (road first road' : R) (d : Due) → new.nodes ≡ old.nodes → new.generator ≡ mid.generator → new.live ≡ mid.live → IsRefreshed i o old.live mid.live old.player.nodes old.player.clients.items old.player.reads old.player.recoveries
-      → DrawsDue r i o mid.live old.player.nodes old.player.clients.items old.player.reads old.player.recoveries road first old.generator mid.generator (Some d) → HappenShows f r i o d old.player new.player first road' (Ok tt) → DrawShows f r i o old new road road' (Ok true)
-  drew L opens listed plays due covered on old mid new road first road' d nodes gen live refreshed draws happens = λ p h.
+  pub drew : (L : Laws) → AllOpen → DuesAreListed → PlaysAreDrawn → ListedAreDue → CurrentCovers → CoversOn → (old mid new : Playing F I O) (road first road' : R) (d : Due) → new.nodes ≡ old.nodes → length new.faults.items ≡ length old.faults.items → new.generator ≡ mid.generator → new.live ≡ mid.live → IsRefreshed i o old.live mid.live old.player.nodes old.player.clients.items old.player.reads old.player.recoveries
+      → DrawsDue r i o mid.live old.player.nodes old.player.clients.items old.player.reads old.player.recoveries road first old.generator mid.generator (Some d) → BefallShows f r i o d old.faults.items new.faults.items old.player new.player first road' (Ok tt) → DrawShows f r i o old new road road' (Ok true)
+  drew L opens listed plays due covered on old mid new road first road' d nodes count gen live refreshed draws befall = λ p h.
       let z : Draws p old mid d first = draws_so L opens listed plays due old mid road first d refreshed draws p h in
-      let has : HasHappened r i o p.nodes p.queues d old.player new.player road' = happens p.nodes p.queues z.is.stands z.due_is z.actor (reads_told p first old z.is) in
+      let has : HasBefallen r i o p.nodes p.queues p.faults d new.faults.items old.player new.player road' = befall p.nodes p.queues p.faults z.is.stands z.is.faults.tells z.is.faults.told z.due_is z.actor (reads_told p first old z.is) in
       let covers : Covers (world_of p.nodes new.player) new.live = subst (λ (l : LiveConns). Covers (world_of p.nodes new.player) l) (sym live)
       (covers_after L opens on p first road' old new d mid.live z.is z.due_is has (covered (world_of p.nodes old.player) mid.live z.current)) in
-      let now : PlayIs f r i o (after_due (record p { generator = mid.generator }) d) road' new = after p first road' old new d mid.generator nodes z.is has gen covers in (
+      let now : PlayIs f r i o (befalls (record p { generator = mid.generator }) d) road' new = after p first road' old new d mid.generator nodes count z.is has gen covers in (
         record {
           is = subst (λ (q : PlayState). PlayIs f r i o q road' new) (sym z.play_is) now;
-          blocks = numbers_same new.player.clients.items old.player.clients.items has.places.order;
+          blocks = numbers_same new.player.clients.items old.player.clients.items has.done.places.order;
           given = λ b k. ap (λ (q : PlayState). given_in q b) z.play_is ∙ given_after p first road' old new d mid.generator z.is now has b k;
         },
         z.more,
       )
 
   pub drew_failed : (L : Laws) → AllOpen → DuesAreListed → PlaysAreDrawn → ListedAreDue → (old mid new : Playing F I O) (road first road' : R) (d : Due) (why : PlayFault) (result : Result Bool PlayFault) → result ≡ Err why → r.faults road ≤ r.faults first → IsRefreshed i o old.live mid.live old.player.nodes old.player.clients.items old.player.reads old.player.recoveries
-      → DrawsDue r i o mid.live old.player.nodes old.player.clients.items old.player.reads old.player.recoveries road first old.generator mid.generator (Some d) → HappenShows f r i o d old.player new.player first road' (Err why) → DrawShows f r i o old new road road' result
-  drew_failed L opens listed plays due old mid new road first road' d why result failed faults refreshed draws happens = λ p h.
+      → DrawsDue r i o mid.live old.player.nodes old.player.clients.items old.player.reads old.player.recoveries road first old.generator mid.generator (Some d) → BefallShows f r i o d old.faults.items new.faults.items old.player new.player first road' (Err why) → DrawShows f r i o old new road road' result
+  drew_failed L opens listed plays due old mid new road first road' d why result failed faults refreshed draws befall = λ p h.
       let z : Draws p old mid d first = draws_so L opens listed plays due old mid road first d refreshed draws p h in
-      subst (λ (x : Result Bool PlayFault). DrawEnds f r i o p old new road road' x) (sym failed) (caused old old new road first road' why faults (happens p.nodes p.queues z.is.stands z.due_is z.actor (reads_told p first old z.is)))
+      subst (λ (x : Result Bool PlayFault). DrawEnds f r i o p old new road road' x) (sym failed) (caused old old new road first road' why faults (befall p.nodes p.queues p.faults z.is.stands z.is.faults.tells z.is.faults.told z.due_is z.actor (reads_told p first old z.is)))
 
   -- the player stands on the roads that were asked
   pub stands_there : (L : Laws) → AllOpen → (old mid : Playing F I O) (road first : R) (result : Option Due) → mid.player ≡ old.player → IsPlaying f r i o road old → DrawsDue r i o mid.live old.player.nodes old.player.clients.items old.player.reads old.player.recoveries road first old.generator mid.generator result → PlayerStands r i o first mid.player

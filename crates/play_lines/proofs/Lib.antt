@@ -1,5 +1,7 @@
 pub mod Places
 pub mod Asked
+pub mod SpentLemmas
+pub mod FailedWrites
 pub mod Drawn
 pub mod Joined
 pub mod Runs
@@ -7,6 +9,7 @@ pub mod Lives
 pub mod Lowers
 pub mod Ordered
 pub mod Ruled
+pub mod Faulted
 pub mod Pipelined
 pub mod Stepped
 pub mod CutLines
@@ -18,6 +21,7 @@ pub mod Commands
 pub mod Lined
 pub mod ReadLines
 pub mod RecoverLines
+pub mod FaultLines
 pub mod LineRuns
 pub mod PlayClients
 pub mod PlayLaws

@@ -18,13 +18,14 @@ use Rattle.play_model.proofs.WorldLaws.StampGivens.{put-there}
 use Rattle.writer_core.specs.declared.intake.Intake.{Intake}
 use Rattle.play_model.specs.declared.dues.Due.{Due}
 use Rattle.play_model.specs.Draws.{draw, draws, drawn_from, drawn, happened, advanced}
-use Rattle.play_model.specs.Dues.{dues, after_due, is_due}
+use Rattle.play_model.specs.Dues.{dues, is_due}
+use Rattle.play_model.specs.Faults.{befalls}
 use Rattle.play_model.specs.Lines.{PlaysLine, stepped, step_due, pipeline_conn, cut_at, stopped, stop_at}
 use Rattle.play_model.specs.States.{PlayState, ruled, world_of}
 use Rattle.play_opening.specs.PlayDues.Places.{client_place}
 use Rattle.play_opening.specs.PlayDues.Showing.{HasClient}
 use Rattle.play_scripts.specs.Fitting.{LineFits, WordsFit}
-use Rattle.play_scripts.specs.Unplayed.{is_start}
+use Rattle.play_scripts.specs.Unplayed.{is_start, is_fault}
 use Rattle.play_opening.specs.Play.PlayFault.{PlayFault}
 use Rattle.play_opening.proofs.PlayProofs.Dispatch.{has_place}
 use Rattle.play_lines.specs.declared.playing.Playing.{Playing}
@@ -49,7 +50,7 @@ pub record Stays (p q : PlayState) : Type 0 where
   pub below : (number : ℕ) → AsksBelow number p → AsksBelow number q
 
 happened_stays : (p : PlayState) (d : Option Due) → Stays p (happened p d)
-unfolding after_due
+unfolding befalls
 happened_stays p None = record { nodes = refl; rules = refl; below = λ number h. h }
 happened_stays p (Some d) = record { nodes = refl; rules = refl; below = λ number h. h }
 
@@ -71,8 +72,8 @@ stepped_stays p None = record { nodes = refl; rules = refl; below = λ number h.
 stepped_stays p (Some d) = by (is_due (world_of p) p.queues d) refl
   where
     by : (q : Bool) → is_due (world_of p) p.queues d ≡ q → Stays p (stepped p (Some d))
-    by true e = subst (λ (x : Bool). Stays p (if x then after_due p d else p)) (sym e) (happened_stays p (Some d))
-    by false e = subst (λ (x : Bool). Stays p (if x then after_due p d else p)) (sym e) (record { nodes = refl; rules = refl; below = λ number h. h })
+    by true e = subst (λ (x : Bool). Stays p (if x then befalls p d else p)) (sym e) (happened_stays p (Some d))
+    by false e = subst (λ (x : Bool). Stays p (if x then befalls p d else p)) (sym e) (record { nodes = refl; rules = refl; below = λ number h. h })
 
 pub cut_stays : (p : PlayState) (conn : Option ℕ) (down up : ℕ) → Stays p (cut_at p conn down up)
 cut_stays p conn down up = record { nodes = refl; rules = refl; below = λ number h. h }
@@ -183,39 +184,40 @@ IsOther (says.Run count) = ⊥
 IsOther says.Settle = ⊥
 IsOther (says.Step b event) = ⊥
 IsOther (says.Cut b place down up) = ⊥
+IsOther (says.Fault n nth) = ⊥
 IsOther (says.Stop n) = ⊥
 IsOther (says.Start n) = ⊥
 IsOther (says.Read b n offset count) = ⊥
 IsOther (says.Recover b n members) = ⊥
 IsOther line = Unit {0}
 
-pub is_other : (line : Instruction) → ((b : BlockId) (rule : Rule) → line ≡ says.Sums b rule → ⊥) → ((count : ℕ) → line ≡ says.Run count → ⊥) → (line ≡ says.Settle → ⊥) → ((b : BlockId) (event : StepEvent) → line ≡ says.Step b event → ⊥) → ((b : BlockId) (place down up : ℕ) → line ≡ says.Cut b place down up → ⊥) → ((n : NodeId) → line ≡ says.Stop n → ⊥) → is_start line ≡ false → is_read line ≡ false → is_recovery line ≡ false → IsOther line
-is_other (says.Sums b rule) sums runs settles steps cuts stops other asks recovers = sums b rule refl
-is_other (says.Run count) sums runs settles steps cuts stops other asks recovers = runs count refl
-is_other says.Settle sums runs settles steps cuts stops other asks recovers = settles refl
-is_other (says.Step b event) sums runs settles steps cuts stops other asks recovers = steps b event refl
-is_other (says.Read b n offset count) sums runs settles steps cuts stops other asks recovers = absurd (true_false asks)
-is_other (says.Recover b n members) sums runs settles steps cuts stops other asks recovers = absurd (true_false recovers)
-is_other (says.Cut b place down up) sums runs settles steps cuts stops other asks recovers = cuts b place down up refl
-is_other (says.Fault n nth) sums runs settles steps cuts stops other asks recovers = tt
-is_other (says.Stop n) sums runs settles steps cuts stops other asks recovers = stops n refl
-is_other (says.Start n) sums runs settles steps cuts stops other asks recovers = absurd (true_false other)
-is_other (says.Expect n b state stamp written) sums runs settles steps cuts stops other asks recovers = tt
-is_other (says.Nodes count) sums runs settles steps cuts stops other asks recovers = tt
-is_other (says.Seed seed) sums runs settles steps cuts stops other asks recovers = tt
-is_other (says.Create b members) sums runs settles steps cuts stops other asks recovers = tt
-is_other (says.Append b members) sums runs settles steps cuts stops other asks recovers = tt
-is_other (says.Write b bytes) sums runs settles steps cuts stops other asks recovers = tt
-is_other (says.Fill b count) sums runs settles steps cuts stops other asks recovers = tt
-is_other (says.Hflush b) sums runs settles steps cuts stops other asks recovers = tt
-is_other (says.Hsync b) sums runs settles steps cuts stops other asks recovers = tt
-is_other (says.Close b) sums runs settles steps cuts stops other asks recovers = tt
+pub is_other : (line : Instruction) → ((b : BlockId) (rule : Rule) → line ≡ says.Sums b rule → ⊥) → ((count : ℕ) → line ≡ says.Run count → ⊥) → (line ≡ says.Settle → ⊥) → ((b : BlockId) (event : StepEvent) → line ≡ says.Step b event → ⊥) → ((b : BlockId) (place down up : ℕ) → line ≡ says.Cut b place down up → ⊥) → ((n : NodeId) → line ≡ says.Stop n → ⊥) → is_start line ≡ false → is_fault line ≡ false → is_read line ≡ false → is_recovery line ≡ false → IsOther line
+is_other (says.Sums b rule) sums runs settles steps cuts stops other fails asks recovers = sums b rule refl
+is_other (says.Run count) sums runs settles steps cuts stops other fails asks recovers = runs count refl
+is_other says.Settle sums runs settles steps cuts stops other fails asks recovers = settles refl
+is_other (says.Step b event) sums runs settles steps cuts stops other fails asks recovers = steps b event refl
+is_other (says.Read b n offset count) sums runs settles steps cuts stops other fails asks recovers = absurd (true_false asks)
+is_other (says.Recover b n members) sums runs settles steps cuts stops other fails asks recovers = absurd (true_false recovers)
+is_other (says.Cut b place down up) sums runs settles steps cuts stops other fails asks recovers = cuts b place down up refl
+is_other (says.Fault n nth) sums runs settles steps cuts stops other fails asks recovers = absurd (true_false fails)
+is_other (says.Stop n) sums runs settles steps cuts stops other fails asks recovers = stops n refl
+is_other (says.Start n) sums runs settles steps cuts stops other fails asks recovers = absurd (true_false other)
+is_other (says.Expect n b state stamp written) sums runs settles steps cuts stops other fails asks recovers = tt
+is_other (says.Nodes count) sums runs settles steps cuts stops other fails asks recovers = tt
+is_other (says.Seed seed) sums runs settles steps cuts stops other fails asks recovers = tt
+is_other (says.Create b members) sums runs settles steps cuts stops other fails asks recovers = tt
+is_other (says.Append b members) sums runs settles steps cuts stops other fails asks recovers = tt
+is_other (says.Write b bytes) sums runs settles steps cuts stops other fails asks recovers = tt
+is_other (says.Fill b count) sums runs settles steps cuts stops other fails asks recovers = tt
+is_other (says.Hflush b) sums runs settles steps cuts stops other fails asks recovers = tt
+is_other (says.Hsync b) sums runs settles steps cuts stops other fails asks recovers = tt
+is_other (says.Close b) sums runs settles steps cuts stops other fails asks recovers = tt
 
 idle_passes : (before : Before) (line : Instruction) → ordered_by line ≡ None → IsOther line → WordsFit before.nodes line → Passes before (after before line)
 idle_passes before (says.Read b n offset count) none other words = absurd other
 idle_passes before (says.Recover b n members) none other words = absurd other
 idle_passes before (says.Cut b place down up) none other words = absurd other
-idle_passes before (says.Fault n nth) none other words = record { nodes = refl; written = refl; stage = λ x. refl }
+idle_passes before (says.Fault n nth) none other words = absurd other
 idle_passes before (says.Stop n) none other words = absurd other
 idle_passes before (says.Start n) none other words = absurd other
 idle_passes before (says.Expect n b state stamp written) none other words = record { nodes = refl; written = refl; stage = λ x. refl }
@@ -237,7 +239,7 @@ idle_plays : (blocks : List ℕ) (number : ℕ) (p : PlayState) (line : Instruct
 idle_plays blocks number p (says.Read b n offset count) none other = absurd other
 idle_plays blocks number p (says.Recover b n members) none other = absurd other
 idle_plays blocks number p (says.Cut b place down up) none other = absurd other
-idle_plays blocks number p (says.Fault n nth) none other = refl
+idle_plays blocks number p (says.Fault n nth) none other = absurd other
 idle_plays blocks number p (says.Stop n) none other = absurd other
 idle_plays blocks number p (says.Start n) none other = absurd other
 idle_plays blocks number p (says.Expect n b state stamp written) none other = refl
@@ -256,7 +258,7 @@ idle_plays blocks number p (says.Hsync b) none other = cc
 idle_plays blocks number p (says.Close b) none other = cc
 
 module _ {F R I O : Type 0} (f : files.Ghosts F) (r : roads.Ghosts R I O) (i : link_in.Ghosts I) (o : link_out.Ghosts O) (old : Playing F I O) (road : R) where
-  -- a line that plays don't have does nothing
+  -- a line that does nothing
   idle_left : (number : ℕ) (line : Instruction) (before : Before) (lines : ℕ) (p : PlayState) → Passes before (after before line) → PlaysLine (blocks_in old) number line p p → IsBehind before lines p old → AsksBelow number p → PlayIs f r i o p road old
       → LineLeft f r i o number line before lines p old old road
   idle_left number line before lines p same plays behind asked stands = record {
@@ -289,6 +291,7 @@ module _ {F R I O : Type 0} (f : files.Ghosts F) (r : roads.Ghosts R I O) (i : l
     nodes_are = stands.nodes_are;
     events = stands.events;
     generator = stands.generator;
+    faults = stands.faults;
     asks = stands.asks;
     told = stands.told;
     recovers = stands.recovers;

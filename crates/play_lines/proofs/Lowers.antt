@@ -27,7 +27,8 @@ use Rattle.play_opening.specs.PlayPrimaries.PrimaryClient.{PrimaryClient}
 use Rattle.play_opening.specs.PlayRecoveries.Places.{recoveries_of, PrimariesAscend}
 use Rattle.play_scripts.specs.WorldTexts.Texts.{AllFit}
 use Rattle.play_model.specs.Draws.{drawn_from, happened, advanced, draw}
-use Rattle.play_model.specs.Dues.{Queues, is_due, dues, after_due}
+use Rattle.play_model.specs.Dues.{Queues, is_due, dues}
+use Rattle.play_model.specs.Faults.{befalls}
 use Rattle.play_model.specs.Laws.{OwnAmong, RecoveryAmong, IsListed, ListedAreDue}
 use Rattle.play_model.specs.States as states
 use Rattle.play_model.specs.States.{PlayState}
@@ -166,12 +167,12 @@ module _ {F R I O : Type 0} (f : files.Ghosts F) (r : roads.Ghosts R I O) (i : l
         let len : length p.events ≡ length (x.player.events.items ++ []) = ap length h.events ∙ ap length (sym (append-nil x.player.events.items)) in
         omega (arith, stamps, within, len)
 
-    after_lower : (d : Due) → IsListed (blocks_in x) p d → weight_of (blocks_in x) (after_due p d) < weight_of (blocks_in x) p
-    after_lower d z = lower (blocks_in x) p d (subst (λ (es : List Event). AllFit es) (sym h.events) h.stands.events.widths) few (can_happen d z)
+    befalls_lower : (d : Due) → IsListed (blocks_in x) p d → weight_of (blocks_in x) (befalls p d) < weight_of (blocks_in x) p
+    befalls_lower d z = lower (blocks_in x) p d (subst (λ (es : List Event). AllFit es) (sym h.events) h.stands.events.widths) few (can_happen d z)
 
     -- the generator weighs nothing
-    lower_so : (d : Due) → weight_of (blocks_in x) (after_due p d) < weight_of (blocks_in x) p → weight_of (blocks_in x) (after_due (advanced p) d) < weight_of (blocks_in x) p
-    unfolding after_due
+    lower_so : (d : Due) → weight_of (blocks_in x) (befalls p d) < weight_of (blocks_in x) p → weight_of (blocks_in x) (befalls (advanced p) d) < weight_of (blocks_in x) p
+    unfolding befalls
     lower_so d h = h
 
     drawn_lower : (ds : List Due) → ds ≡ dues (blocks_in x) p → true ≡ is_some (slice_get ds 0) → weight_of (blocks_in x) (drawn_from ds p) < weight_of (blocks_in x) p
@@ -183,7 +184,7 @@ module _ {F R I O : Type 0} (f : files.Ghosts F) (r : roads.Ghosts R I O) (i : l
 
         by : (y : Due) × (slice_get (d ∷ ds) ((pcg32 p.generator).0 % length (d ∷ ds)) ≡ Some y) → weight_of (blocks_in x) (happened (advanced p) (slice_get (d ∷ ds) ((pcg32 p.generator).0 % length (d ∷ ds)))) < weight_of (blocks_in x) p
         by y = subst (λ (q : Option Due). weight_of (blocks_in x) (happened (advanced p) q) < weight_of (blocks_in x) p) (sym y.1)
-            (lower_so y.0 (after_lower y.0 (listed (blocks_in x) p ((pcg32 p.generator).0 % length (d ∷ ds)) y.0 (subst (λ (xs : List Due). slice_get xs ((pcg32 p.generator).0 % length (d ∷ ds)) ≡ Some y.0) e y.1))))
+            (lower_so y.0 (befalls_lower y.0 (listed (blocks_in x) p ((pcg32 p.generator).0 % length (d ∷ ds)) y.0 (subst (λ (xs : List Due). slice_get xs ((pcg32 p.generator).0 % length (d ∷ ds)) ≡ Some y.0) e y.1))))
 
     pub draw_lower : true ≡ is_some (slice_get (dues (blocks_in x) p) 0) → weight_of (blocks_in x) (draw (blocks_in x) p) < weight_of (blocks_in x) p
     draw_lower some = drawn_lower (dues (blocks_in x) p) refl some

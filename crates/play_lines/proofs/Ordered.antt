@@ -172,6 +172,7 @@ module _ {F R I O : Type 0} (f : files.Ghosts F) (r : roads.Ghosts R I O) (i : l
       nodes_are = is.nodes_are;
       events = is.events;
       generator = is.generator;
+      faults = is.faults;
       asks = is.asks;
       told = is.told;
       recovers = is.recovers;

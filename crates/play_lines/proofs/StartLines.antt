@@ -47,13 +47,13 @@ use Rattle.play_lines.specs.Drawing.{IsDrawn}
 use Rattle.script_lang.specs.declared.instructions.ScriptLine.{ScriptLine}
 use Rattle.play_lines.specs.Lines.{LineLeft, LineEndsOver, LineShows, LineShowsOver, LineEnds}
 use Rattle.play_lines.specs.Shelves.{IsLineFault}
-use Rattle.play_lines.specs.Showing.{PlayIs}
+use Rattle.play_lines.specs.Showing.{FaultsShow, PlayIs}
 use Rattle.play_lines.specs.Starting.{StartEnds, StartShows}
 use Rattle.play_lines.proofs.Drawn.{world_same}
 use Rattle.play_lines.proofs.Lined.{Stays, drawn_left}
 use Rattle.play_lines.proofs.Lives.{PrimariesLived, primaries_lived}
 use Rattle.play_lines.proofs.ShelfLemmas.{line_fault}
-use Rattle.play_lines.proofs.StopLines.{both, silent}
+use Rattle.play_lines.proofs.SpentLemmas.{both, silent}
 
 -- WHAT IS SPENT
 
@@ -189,6 +189,7 @@ module _ {S F R I O : Type 0} (s : shelves.Ghosts S F) (f : files.Ghosts F) (r :
             nodes_are = h.nodes_are ∙ ap (λ (x : Playing F I O). x.nodes) (sym rest);
             events = events;
             generator = ap (λ (x : Playing F I O). x.generator) rest ∙ h.generator;
+            faults = subst (λ (numbers : List ℕ). FaultsShow f p.nodes p.faults numbers) (ap (λ (x : Playing F I O). x.faults.items) (sym rest)) h.faults;
             asks = has.asks ∙ h.asks;
             told = h.told;
             recovers = has.recovers ∙ h.recovers;

@@ -1,5 +1,5 @@
--- One event of a pipeline happens, where it is due.
-use Rattle.std.proofs.Common.{◌≡◌, ℕ, ◌≤◌, Bool, true, false, if◌then◌else◌, List, Option, Some, None, option_map, Result, Ok, Err, refl, sym, ap, ◌∙◌, subst}
+-- One event of a pipeline befalls, where it is due.
+use Rattle.std.proofs.Common.{◌≡◌, ℕ, ◌≤◌, Bool, true, false, if◌then◌else◌, List, length, Option, Some, None, option_map, Result, Ok, Err, refl, sym, ap, ◌∙◌, subst}
 use Rattle.std.proofs.lemmas.Option.{none-some, same_Some}
 use Rattle.hd_base.specs.declared.files.Files as files
 use Rattle.hd_base.specs.declared.links.LinkIn as link_in
@@ -14,7 +14,8 @@ use Rattle.play_model.specs.WorldLaws.Placing.{Placed}
 use Rattle.play_scripts.specs.WorldOrders.Open.{AllOpen}
 use Rattle.play_model.specs.declared.dues.Due.{Due}
 use Rattle.play_model.specs.declared.dues.Due.TheVariants as due
-use Rattle.play_model.specs.Dues.{is_due, after_due}
+use Rattle.play_model.specs.Dues.{is_due}
+use Rattle.play_model.specs.Faults.{befalls}
 use Rattle.play_model.specs.Lines.{step_due, stepped}
 use Rattle.play_model.specs.States as states
 use Rattle.play_model.specs.States.{PlayState}
@@ -31,7 +32,8 @@ use Rattle.play_opening.specs.Play.PlayFault.{PlayFault}
 use Rattle.play_opening.specs.Play.Player.{Player}
 use Rattle.play_opening.specs.Play.Laws.{Laws}
 use Rattle.play_opening.specs.Play.Showing.{PlayerStands}
-use Rattle.play_opening.specs.Play.Standing.{world_of, HappenEnds, HappenShows, ActorIsClient}
+use Rattle.play.specs.Befalling.{BefallEnds, BefallShows}
+use Rattle.play_opening.specs.Play.Standing.{world_of, ActorIsClient}
 use Rattle.play_opening.proofs.PlayProofs.Dispatch.{has_place, client_at}
 use Rattle.play_lines.specs.declared.playing.Playing.{Playing}
 use Rattle.play_lines.specs.Drawing.{IsDrawn}
@@ -184,33 +186,33 @@ module _ {F R I O : Type 0} (f : files.Ghosts F) (r : roads.Ghosts R I O) (i : l
       let t = tells (played old block event d is has) (world_of p.nodes old.player) h.stands.net p.queues (dues_show f r i o L opens p road old h) in
       let never : false ≡ is_due (states.world_of p) p.queues d = sym fails ∙ (t.1 ∙ ap (λ (w : World). is_due w p.queues d) (sym (world_same f r i o p road old h))) in
       subst (λ (x : Option Due). IsDrawn f r i o p (stepped p x) old old road') (sym is ∙ for_told p road old h has)
-      (subst (λ (b : Bool). IsDrawn f r i o p (if b then after_due p d else p) old old road') never (record { is = with_roads f r i o p road road' old h t.0; blocks = refl; given = λ b k. refl }))
+      (subst (λ (b : Bool). IsDrawn f r i o p (if b then befalls p d else p) old old road') never (record { is = with_roads f r i o p road road' old h t.0; blocks = refl; given = λ b k. refl }))
 
   pub stands_here : (old : Playing F I O) (road first : R) (found : Option Due) (d : Due) (result : Bool) → found ≡ due_for old block event → found ≡ Some d → result ≡ true → (IsAlone old.player.clients.items old.player.reads old.player.recoveries d → result ≡ false) → IsPlaying f r i o road old → TellsDue r i o d old.player.nodes old.player.clients.items old.player.reads old.player.recoveries road first result → PlayerStands r i o first old.player
   stands_here old road first found d result for there holds alone playing tells =
       let t = tells (played_so old.player.clients.items old.player.reads old.player.recoveries d result (for_so old block event d (sym for ∙ there)) holds alone) (world_of playing.p.nodes old.player) playing.is.stands.net playing.p.queues (dues_show f r i o L opens playing.p road old playing.is) in
       player_stands f r i o playing.p first old (with_roads f r i o playing.p road first old playing.is t.0)
 
-  happens_so : CoversOn → (p : PlayState) (old new : Playing F I O) (road first road' : R) (d : Due) (result : Result (Unit {0}) PlayFault) → new.nodes ≡ old.nodes → new.generator ≡ old.generator → new.live ≡ old.live → r.faults road ≤ r.faults first → due_for old block event ≡ Some d → PlayIs f r i o p road old → PlayIs f r i o p first old
-      → HasClient old.player.clients.items block.0 → is_due (world_of p.nodes old.player) p.queues d ≡ true → HappenEnds f r i o p.nodes p.queues d old.player new.player first road' result → StepEnds f r i o block event p old new road road' result
-  happens_so on p old new road first road' d (Ok u) nodes gen live faults is h here has holds ends =
+  befalls_so : CoversOn → (p : PlayState) (old new : Playing F I O) (road first road' : R) (d : Due) (result : Result (Unit {0}) PlayFault) → new.nodes ≡ old.nodes → length new.faults.items ≡ length old.faults.items → new.generator ≡ old.generator → new.live ≡ old.live → r.faults road ≤ r.faults first → due_for old block event ≡ Some d → PlayIs f r i o p road old → PlayIs f r i o p first old
+      → HasClient old.player.clients.items block.0 → is_due (world_of p.nodes old.player) p.queues d ≡ true → BefallEnds f r i o p.nodes p.queues p.faults d new.faults.items old.player new.player first road' result → StepEnds f r i o block event p old new road road' result
+  befalls_so on p old new road first road' d (Ok u) nodes count gen live faults is h here has holds ends =
       let covers : Covers (world_of p.nodes new.player) new.live = subst (λ (l : LiveConns). Covers (world_of p.nodes new.player) l) (sym live) (covers_after f r i o L opens on p first road' old new d old.live here holds ends here.live) in
-      let now : PlayIs f r i o (after_due (record p { generator = p.generator }) d) road' new = after f r i o p first road' old new d p.generator nodes here ends (gen ∙ h.generator) covers in
+      let now : PlayIs f r i o (befalls (record p { generator = p.generator }) d) road' new = after f r i o p first road' old new d p.generator nodes count here ends (gen ∙ h.generator) covers in
       let due_is : true ≡ is_due (states.world_of p) p.queues d = sym holds ∙ ap (λ (w : World). is_due w p.queues d) (sym (world_same f r i o p road old h)) in
       subst (λ (x : Option Due). IsDrawn f r i o p (stepped p x) old new road') (sym is ∙ for_told p road old h has)
-      (subst (λ (b : Bool). IsDrawn f r i o p (if b then after_due p d else p) old new road') due_is (record {
+      (subst (λ (b : Bool). IsDrawn f r i o p (if b then befalls p d else p) old new road') due_is (record {
         is = now;
         given = λ b k. given_after f r i o p first road' old new d p.generator here now ends b k;
-        blocks = numbers_same new.player.clients.items old.player.clients.items ends.places.order;
+        blocks = numbers_same new.player.clients.items old.player.clients.items ends.done.places.order;
       }))
-  happens_so on p old new road first road' d (Err why) nodes gen live faults is h here has holds ends = caused f r i o old old new road first road' why faults ends
+  befalls_so on p old new road first road' d (Err why) nodes count gen live faults is h here has holds ends = caused f r i o old old new road first road' why faults ends
 
-  pub happened : CoversOn → (old new : Playing F I O) (road first road' : R) (found : Option Due) (d : Due) (told : Bool) (result : Result (Unit {0}) PlayFault) → new.nodes ≡ old.nodes → new.generator ≡ old.generator → new.live ≡ old.live → r.faults road ≤ r.faults first → told ≡ true → found ≡ due_for old block event → found ≡ Some d
-      → TellsDue r i o d old.player.nodes old.player.clients.items old.player.reads old.player.recoveries road first told → HappenShows f r i o d old.player new.player first road' result → StepShows f r i o block event old new road road' result
-  happened on old new road first road' found d told result nodes gen live faults holds for there tells happens = λ p h has.
+  pub befell : CoversOn → (old new : Playing F I O) (road first road' : R) (found : Option Due) (d : Due) (told : Bool) (result : Result (Unit {0}) PlayFault) → new.nodes ≡ old.nodes → length new.faults.items ≡ length old.faults.items → new.generator ≡ old.generator → new.live ≡ old.live → r.faults road ≤ r.faults first → told ≡ true → found ≡ due_for old block event → found ≡ Some d
+      → TellsDue r i o d old.player.nodes old.player.clients.items old.player.reads old.player.recoveries road first told → BefallShows f r i o d old.faults.items new.faults.items old.player new.player first road' result → StepShows f r i o block event old new road road' result
+  befell on old new road first road' found d told result nodes count gen live faults holds for there tells befall = λ p h has.
       let is : due_for old block event ≡ Some d = sym for ∙ there in
       let here = played old block event d is has in
       let t = tells here (world_of p.nodes old.player) h.stands.net p.queues (dues_show f r i o L opens p road old h) in
       let standing = with_roads f r i o p road first old h t.0 in
       let now : is_due (world_of p.nodes old.player) p.queues d ≡ true = sym t.1 ∙ holds in
-      happens_so on p old new road first road' d result nodes gen live faults is h standing has now (happens p.nodes p.queues standing.stands now (actor_so old.player d here) (reads_told f r i o p first old standing))
+      befalls_so on p old new road first road' d result nodes count gen live faults is h standing has now (befall p.nodes p.queues p.faults standing.stands standing.faults.tells standing.faults.told now (actor_so old.player d here) (reads_told f r i o p first old standing))

@@ -38,9 +38,10 @@ use Rattle.play_opening.specs.Play.Stopping as player
 use Rattle.play_opening.specs.Play.Stopping.{HasStopped}
 use Rattle.play_lines.specs.declared.playing.Playing.{Playing}
 use Rattle.play_lines.specs.Drawing.{IsCaused, IsDrawn}
-use Rattle.play_lines.specs.Showing.{PlayIs, IsPlaying}
+use Rattle.play_lines.specs.Showing.{FaultsShow, PlayIs, IsPlaying}
 use Rattle.play_lines.specs.Stopping.{StopShows}
 use Rattle.play_lines.proofs.Drawn.{world_same}
+use Rattle.play_lines.proofs.SpentLemmas.{both, silent}
 use Rattle.play_lines.proofs.Places.{each_stopped, stopped_members}
 
 -- WHAT IS SPENT
@@ -71,21 +72,6 @@ led_over w n place no_primary h = refl
 led_over w n place (was_told b told) h = refl
 led_over w n place (has_led result) h = refl
 
--- who took nothing, or has taken the end, takes nothing
-none_led : (led over : Bool) → not led ≡ true → not (led && not over) ≡ true
-none_led false over e = refl
-none_led true over e = cc
-
-none_left : (led over : Bool) → over ≡ true → not (led && not over) ≡ true
-none_left false over e = refl
-none_left true true e = refl
-none_left true false e = cc
-
-pub silent : (led led' over over' : Bool) → (not led ≡ true → not led' ≡ true) → (over ≡ true → over' ≡ true) → not (led && not over) ≡ true → not (led' && not over') ≡ true
-silent false led' over over' still stays h = none_led led' over' (still refl)
-silent true led' true over' still stays h = none_left led' over' (stays refl)
-silent true led' false over' still stays h = cc
-
 over_stops : (w : World) (n : NodeId) (c : ℕ) → (w.up_marks c).over ≡ true → ((stopped w n).up_marks c).over ≡ true
 over_stops w n c e = by (is_of_node w n.0 c)
   where
@@ -99,11 +85,6 @@ given_up w n c (by_member d) h = no_events w n d h
 given_up w n c (by_reader k) h = h
 given_up w n c (by_primary k place) h =
     silent (leads_from (w.primaries k) w place) (leads_from (w.primaries k) (stopped w n) place) (w.up_marks c).over ((stopped w n).up_marks c).over (led_over w n place (w.primaries k)) (over_stops w n c) h
-
-pub both : (a b c d : Bool) → (a ≡ true → c ≡ true) → (b ≡ true → d ≡ true) → (a && b) ≡ true → (c && d) ≡ true
-both true true c d f g h = ap (λ (x : Bool). x && d) (f refl) ∙ g refl
-both true false c d f g h = cc
-both false b c d f g h = cc
 
 spent_stops : (w : World) (n : NodeId) (c : ℕ) → is_spent w c ≡ true → is_spent (stopped w n) c ≡ true
 spent_stops w n c h =
@@ -158,6 +139,7 @@ module _ {F R I O : Type 0} (f : files.Ghosts F) (r : roads.Ghosts R I O) (i : l
             nodes_are = h.nodes_are ∙ ap (λ (x : Playing F I O). x.nodes) (sym rest);
             events = events;
             generator = ap (λ (x : Playing F I O). x.generator) rest ∙ h.generator;
+            faults = subst (λ (numbers : List ℕ). FaultsShow f p.nodes p.faults numbers) (ap (λ (x : Playing F I O). x.faults.items) (sym rest)) h.faults;
             asks = has.asks ∙ h.asks;
             told = h.told;
             recovers = has.recovers ∙ ap (λ (rs : List Recovery). map (stopped_at node) rs) h.recovers;

@@ -12,7 +12,7 @@ use Rattle.play_model.specs.States.{PlayState, asked}
 use Rattle.play_opening.specs.PlayReads.Joining.{HasJoined}
 use Rattle.play_opening.specs.Play.PlayFault.{PlayFault}
 use Rattle.play_opening.specs.Play.PlayFault.TheVariants as fault
-use Rattle.play_opening.specs.Play.Reading.{FilesTell}
+use Rattle.play_opening.specs.Play.Events.{FilesTell}
 use Rattle.play_opening.specs.Play.Standing.{AskFits}
 use Rattle.play_lines.specs.declared.playing.Playing.{Playing}
 use Rattle.play_lines.specs.Drawing.{IsLeft}

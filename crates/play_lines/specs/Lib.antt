@@ -2,6 +2,8 @@ pub mod Showing
 pub mod Drawing
 pub mod Ordering
 pub mod Ruling
+pub mod Faulting
+pub mod Befalling
 pub mod Asking
 pub mod Recovering
 pub mod Pipelines

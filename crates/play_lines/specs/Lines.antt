@@ -104,7 +104,8 @@ LineEnds f r i o number line before lines p old new road road' (Ok u) =
     LineLeft f r i o number line before lines p old new road'
 LineEnds f r i o number line before lines p old new road road' (Err why) = IsCaused f r new road road' why
 
--- A line that fits, and neither starts a node nor asks to read or to recover, is played, whatever its number.
+-- A line that fits, and neither starts a node, nor makes a write fail, nor asks to read or to recover, is played,
+-- whatever its number.
 abbrev pub LineShows : {F R I O : Type 0} → files.Ghosts F → roads.Ghosts R I O → link_in.Ghosts I → link_out.Ghosts O →
     Instruction → Playing F I O → Playing F I O → R → R → Result (Unit {0}) PlayFault → Type 0
 LineShows f r i o line old new road road' result = (number : ℕ) (before : Before) (lines : ℕ) (p : PlayState) →

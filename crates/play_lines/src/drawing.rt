@@ -6,17 +6,18 @@ ghost use Rattle.play_lines.specs.Showing.{IsPlaying};
 ghost use Rattle.play_lines.specs.Drawing.{DrawShows, RunShows, SettleShows};
 
 use crate::playing::Playing;
-use hd_base::{Files, LinkIn, LinkOut, Roads};
+use hd_base::{LinkIn, LinkOut, Roads};
 use play_model::listed_dues_are_due;
 use play_opening::{
     PlayFault, draw_due, dues_are_listed, live_connections_are_covered, plays_are_drawn,
     plays_lower, worlds_are_lawful,
 };
 use play_scripts::takers_are_open;
+use refusing_files::Refusing;
 use std::alloc::Global;
 
-impl<F: Files, I: LinkIn, O: LinkOut> Playing<F, I, O> {
-    /// Where something is due, one word of the generator is taken, and what it draws happens. Answers whether something
+impl<F: Refusing, I: LinkIn, O: LinkOut> Playing<F, I, O> {
+    /// Where something is due, one word of the generator is taken, and what it draws befalls. Answers whether something
     /// was due.
     pub fn draw<R: Roads<Inward = I, Outward = O>>(
         &mut self,
@@ -56,7 +57,7 @@ impl<F: Files, I: LinkIn, O: LinkOut> Playing<F, I, O> {
         let Some(due) = drawn else {
             return Ok(false);
         };
-        self.player.happen(alloc, roads, due)?;
+        self.befall(alloc, roads, due)?;
         Ok(true)
     }
 

@@ -2,8 +2,10 @@
 #![tactic(auto)]
 
 mod asking;
+mod befalling;
 mod cutting;
 mod drawing;
+mod faulting;
 mod lines;
 mod ordering;
 mod pipelines;
@@ -15,6 +17,7 @@ mod stepping;
 mod stopping;
 
 pub use asking::asks_are_plays;
+pub use faulting::arms_are_plays;
 pub use ordering::orders_are_plays;
 pub use play_opening::{LiveConns, PlayFault, Said, open_player};
 pub use play_scripts::OpenFault;

@@ -5,20 +5,22 @@ ghost use Rattle.play_scripts.specs.MemberEvents.Roads.{RoadsPass};
 ghost use Rattle.play_scripts.specs.PlayNodes.Places.{KeepsSizes};
 ghost use Rattle.play_scripts.specs.Reads.{is_read};
 ghost use Rattle.play_scripts.specs.Recoveries.{is_recovery};
-ghost use Rattle.play_scripts.specs.Unplayed.{is_start, LineIsTold, LinesAreTold};
+ghost use Rattle.play_scripts.specs.Unplayed.{is_start, is_fault, LineIsTold, LinesAreTold};
 ghost use Rattle.play_lines.specs.Lines.{IsReady, LineShows, LineShowsOver, LinesShow, ordered_by};
 ghost use Rattle.play_lines.specs.Shelves.{ShelvesServe, ShelvesGoOn};
 ghost use Rattle.play_lines.specs.Showing.{IsPlaying};
 
 use crate::asking::asks_are_plays;
+use crate::faulting::arms_are_plays;
 use crate::ordering::orders_are_plays;
 use crate::playing::Playing;
 use crate::recovering::recovers_are_plays;
 use crate::ruling::rules_are_plays;
 use fault_ports::CutRoads;
-use hd_base::{BlockId, Files, LinkIn, LinkOut};
+use hd_base::{BlockId, LinkIn, LinkOut};
 use play_opening::PlayFault;
 use play_scripts::standing_nodes_close;
+use refusing_files::Refusing;
 use script_lang::{Instruction, ScriptLine};
 use std::alloc::{AllocError, Global};
 use told_shelves::{ToldShelf, told_shelves_tell};
@@ -56,9 +58,9 @@ fn command_of(line: &Instruction) -> Result<Option<Ordered>, AllocError>
     Ok(Some(Ordered { block, command }))
 }
 
-impl<F: Files, I: LinkIn, O: LinkOut> Playing<F, I, O> {
-    /// A line behind the first two is played. It fits those before it; a node starts, and a reader asks, only over
-    /// shelves that tell their files. Faults aren't played yet, and nothing is done.
+impl<F: Refusing, I: LinkIn, O: LinkOut> Playing<F, I, O> {
+    /// A line behind the first two is played. It fits those before it; a node starts, a reader asks, and a write is to
+    /// fail, only over shelves that tell their files.
     pub fn line<S: ToldShelf<Drawer = F>, R: CutRoads<Inward = I, Outward = O>>(
         &mut self,
         alloc: Global,
@@ -77,6 +79,7 @@ impl<F: Files, I: LinkIn, O: LinkOut> Playing<F, I, O> {
         told_shelves_tell::<S>();
         asks_are_plays::<F, I, O, R>();
         recovers_are_plays::<F, I, O, R>();
+        arms_are_plays::<F, I, O, R>();
         match &line.instruction {
             Instruction::Start { node } => self.start(alloc, roads, shelves, *node),
             Instruction::Read {
@@ -90,11 +93,15 @@ impl<F: Files, I: LinkIn, O: LinkOut> Playing<F, I, O> {
                 node,
                 members,
             } => self.recover(line.number, *block, *node, members.duplicate()),
+            Instruction::Fault { node, nth } => {
+                self.arm(*node, *nth);
+                Ok(())
+            }
             instruction => self.other_line(alloc, roads, instruction),
         }
     }
 
-    /// A line that neither starts a node nor asks to read or to recover is played.
+    /// A line that neither starts a node, nor makes a write fail, nor asks to read or to recover is played.
     fn other_line<R: CutRoads<Inward = I, Outward = O>>(
         &mut self,
         alloc: Global,
@@ -103,6 +110,7 @@ impl<F: Files, I: LinkIn, O: LinkOut> Playing<F, I, O> {
     ) -> Result<(), PlayFault>
         requires playing { IsPlaying F.Files R.Roads I.LinkIn O.LinkOut roads.old self.old }
         requires other { is_start line.now ≡ false }
+        requires arms_nothing { is_fault line.now ≡ false }
         requires asks_nothing { is_read line.now ≡ false }
         requires recovers_nothing { is_recovery line.now ≡ false }
         ensures shows { LineShows F.Files R.Roads I.LinkIn O.LinkOut line.now
@@ -118,7 +126,7 @@ impl<F: Files, I: LinkIn, O: LinkOut> Playing<F, I, O> {
         }
     }
 
-    /// A line that gives no command, starts no node and asks nothing is played.
+    /// A line that gives no command, starts no node, makes no write fail and asks nothing is played.
     fn event<R: CutRoads<Inward = I, Outward = O>>(
         &mut self,
         alloc: Global,
@@ -128,6 +136,7 @@ impl<F: Files, I: LinkIn, O: LinkOut> Playing<F, I, O> {
         requires playing { IsPlaying F.Files R.Roads I.LinkIn O.LinkOut roads.old self.old }
         requires none { ordered_by line.now ≡ None }
         requires other { is_start line.now ≡ false }
+        requires arms_nothing { is_fault line.now ≡ false }
         requires asks_nothing { is_read line.now ≡ false }
         requires recovers_nothing { is_recovery line.now ≡ false }
         ensures shows { LineShows F.Files R.Roads I.LinkIn O.LinkOut line.now
@@ -156,8 +165,8 @@ impl<F: Files, I: LinkIn, O: LinkOut> Playing<F, I, O> {
     }
 
     /// The lines behind the first two of a script are played, one after the other, over the shelves of the nodes; then
-    /// what is due happens until nothing is. The lines fit, and each block that they create has a client; a node
-    /// starts, and a reader asks, only over shelves that tell their files.
+    /// what is due befalls until nothing is. The lines fit, and each block that they create has a client; a node
+    /// starts, a reader asks, and a write is to fail, only over shelves that tell their files.
     pub fn lines<S: ToldShelf<Drawer = F>, R: CutRoads<Inward = I, Outward = O>>(
         &mut self,
         alloc: Global,

@@ -13,6 +13,8 @@ pub struct Playing<F: Files, I, O> {
     pub player: Player<F, I, O>,
     /// Draws what happens next.
     pub generator: Lcg64Xsh32,
+    /// By node which of the coming writes on a data file fails, 0 where none does.
+    pub faults: Vec<u64>,
     /// The connections of which something may still be due: a draw asks no others.
     pub live: LiveConns,
 }

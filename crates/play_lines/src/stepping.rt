@@ -1,4 +1,4 @@
-//! One event of a block's pipeline happens.
+//! One event of a block's pipeline befalls.
 
 ghost use Rattle.std.specs.Prelude.{◌≡◌};
 ghost use Rattle.play_scripts.specs.MemberEvents.Roads.{RoadsPass};
@@ -12,11 +12,12 @@ use hd_base::{BlockId, Files, LinkIn, LinkOut, Roads};
 use play_model::Due;
 use play_opening::{PlayFault, client_of, is_due, live_connections_are_covered, worlds_are_lawful};
 use play_scripts::{Nodes, takers_are_open};
+use refusing_files::Refusing;
 use script_lang::StepEvent;
 use std::alloc::Global;
 
-impl<F: Files, I: LinkIn, O: LinkOut> Playing<F, I, O> {
-    /// One event of the block's present pipeline happens where it is due; else nothing does.
+impl<F: Refusing, I: LinkIn, O: LinkOut> Playing<F, I, O> {
+    /// One event of the block's present pipeline befalls where it is due; else nothing does.
     pub fn step<R: Roads<Inward = I, Outward = O>>(
         &mut self,
         alloc: Global,
@@ -47,9 +48,11 @@ impl<F: Files, I: LinkIn, O: LinkOut> Playing<F, I, O> {
         ) {
             return Ok(());
         }
-        self.player.happen(alloc, roads, due)
+        self.befall(alloc, roads, due)
     }
+}
 
+impl<F: Files, I: LinkIn, O: LinkOut> Playing<F, I, O> {
     /// What an event of the block's present pipeline is, where the block has a client and the pipeline that connection.
     fn due_for(&self, block: BlockId, event: StepEvent) -> Option<Due>
         ensures { result ≡ due_for self.now block event }

@@ -28,6 +28,7 @@ returns c = record {
   own_keeps = c.own_steps_keep_others.ensures;
   heard_keeps = c.hearing_keeps_others.ensures;
   down_keeps = c.nodes_keep_writers.ensures.down;
+  fault_keeps = c.nodes_keep_writers.ensures.fault;
   ready_keeps = c.nodes_keep_writers.ensures.ready;
   mirror_keeps = c.nodes_keep_writers.ensures.up;
   readers = c.readers_take_in_order.ensures;

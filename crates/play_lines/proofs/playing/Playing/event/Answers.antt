@@ -32,7 +32,7 @@ returns-in-Stop-clause-shows g c =
 pub returns-in_default : goal.returns-in_default
 returns-in_default g c = record {
   shows = idle_shows g.F.Files g.R.Roads g.I.LinkIn g.O.LinkOut c.args.self.now c.args.roads.now c.args.line.now c.requires.none
-      (is_other c.args.line.now (λ b rule. c.in_default.not-Sums b rule) (λ count. c.in_default.not-Run count) c.in_default.not-Settle (λ b event. c.in_default.not-Step b event) (λ b place down up. c.in_default.not-Cut b place down up) (λ n. c.in_default.not-Stop n) c.requires.other c.requires.asks_nothing c.requires.recovers_nothing);
+      (is_other c.args.line.now (λ b rule. c.in_default.not-Sums b rule) (λ count. c.in_default.not-Run count) c.in_default.not-Settle (λ b event. c.in_default.not-Step b event) (λ b place down up. c.in_default.not-Cut b place down up) (λ n. c.in_default.not-Stop n) c.requires.other c.requires.arms_nothing c.requires.asks_nothing c.requires.recovers_nothing);
   sizes = sizes_same c.args.self.now.player.nodes;
   pass = pass_same g.R.Roads g.I.LinkIn g.O.LinkOut c.args.roads.now c.args.roads.now refl;
 }

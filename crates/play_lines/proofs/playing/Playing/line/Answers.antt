@@ -1,4 +1,7 @@
--- A line starts a node, asks to read or to recover, or does something else.
+-- A line starts a node, makes a write fail, asks to read or to recover, or does something else.
+use Rattle.play_scripts.proofs.MemberEvents.SetupKnown.{pass_same}
+use Rattle.std.proofs.Common.{Ok, refl}
+use Rattle.play_lines.proofs.FaultLines.{fault_line, told_fault, none_arms}
 use Rattle.play_lines.proofs.ReadLines.{read_line}
 use Rattle.play_lines.proofs.RecoverLines.{recover_line}
 use Rattle.play_lines.proofs.ShelfLemmas.{go_on}
@@ -31,8 +34,21 @@ pub returns-in-Recover-clause-shelves : goal.returns-in-Recover-clause-shelves
 returns-in-Recover-clause-shelves g c =
     go_on g.S.Shelf g.F.Files c.args.shelves.now c.args.self.now c.recover.new.self c.recover.result c.recover.ensures.sizes c.requires.serve
 
+pub returns-in-Fault-clause-shows : goal.returns-in-Fault-clause-shows
+returns-in-Fault-clause-shows g c =
+    fault_line g.S.Shelf g.F.Files g.R.Roads g.I.LinkIn g.O.LinkOut c.args.self.now c.arm.new.self c.args.roads.now c.args.shelves.now c.args.line.now c.in-Fault.node c.in-Fault.nth c.in-Fault.is
+    (c.told_shelves_tell.ensures (told_fault g.S.ToldShelf.told c.args.line.now.instruction c.in-Fault.node c.in-Fault.nth c.in-Fault.is c.requires.told)).drawers
+    c.arms_are_plays.ensures c.arm.ensures.arms
+
+pub returns-in-Fault-clause-shelves : goal.returns-in-Fault-clause-shelves
+returns-in-Fault-clause-shelves g c =
+    go_on g.S.Shelf g.F.Files c.args.shelves.now c.args.self.now c.arm.new.self (Ok tt) c.arm.ensures.sizes c.requires.serve
+
 pub other_line-requires-clause-other : goal.other_line-requires-clause-other
 other_line-requires-clause-other g c κs within = none_starts c.args.line.now.instruction (λ n. c.in_default.not-Start n)
+
+pub other_line-requires-clause-arms_nothing : goal.other_line-requires-clause-arms_nothing
+other_line-requires-clause-arms_nothing g c κs within = none_arms c.args.line.now.instruction (λ n nth. c.in_default.not-Fault n nth)
 
 pub other_line-requires-clause-asks_nothing : goal.other_line-requires-clause-asks_nothing
 other_line-requires-clause-asks_nothing g c κs within = none_asks c.args.line.now.instruction (λ b n offset count. c.in_default.not-Read b n offset count)
