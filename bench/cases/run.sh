@@ -1,11 +1,11 @@
 #!/usr/bin/env bash
 # Plays each script of a folder, and compares report and status with those that stand beside it: NAME.script,
-# NAME.report, and NAME.status where the status isn't 0. Scripts with lines that plays don't have yet are left out.
+# NAME.report, and NAME.status where the status isn't 0.
 # Usage: bench/cases/run.sh FOLDER
 set -u
 top=$(cd "$(dirname "$0")/../.." && pwd)
 folder=${1:?a folder of cases}
-agree=0 differ=0 left_out=0
+agree=0 differ=0
 report=$(mktemp)
 trap 'rm -f "$report"' EXIT
 
@@ -21,10 +21,6 @@ wanted_status() {
 }
 
 for script in "$folder"/*.script; do
-    if grep -qE '^[[:space:]]*fault[[:space:]]' "$script"; then
-        left_out=$((left_out + 1))
-        continue
-    fi
     "$top/dn" play < "$script" > "$report" 2> /dev/null
     status=$?
     if [ "$status" = "$(wanted_status "$script")" ] && cmp -s "$report" "${script%.script}.report"; then
@@ -34,5 +30,5 @@ for script in "$folder"/*.script; do
         echo "differs: $script (status $status)"
     fi
 done
-echo "$agree agree, $differ differ ($left_out left out)"
+echo "$agree agree, $differ differ"
 [ "$differ" -eq 0 ]

@@ -13,6 +13,7 @@ use crate::exits::Exit;
 use crate::reading::read_lines;
 use fault_ports::CutRoads;
 use hd_base::{Sink, Source};
+use refusing_files::Refusing;
 use run_words::{Mode, UsageRule, read_words};
 use std::alloc::Global;
 use told_shelves::ToldShelf;
@@ -28,12 +29,12 @@ use whole_streams::{WriteFault, write_all};
 /// connection was made on them, nobody listens, they have carried nothing, and no end's count has risen. What shelves lend
 /// is given back, whatever the exit is.
 ///
-/// A node starts again only over shelves of a kind that tells its files: over others a script with such a line is
-/// refused.
+/// A node starts again, a reader asks, and a write on a data file fails only over shelves of a kind that tells its files:
+/// over others a script with such a line is refused.
 ///
 /// The exits are tried in the order `Usage`, `ScriptFault`, `BadScript`, `RoadFault`, `NotEmpty` and `ShelfFault` node by
 /// node, `ReportFault`, `Differs`; `Memory` may come at any point.
-pub fn run<I: Source, O: Sink, S: ToldShelf, R: CutRoads>(
+pub fn run<I: Source, O: Sink, F: Refusing, S: ToldShelf<Drawer = F>, R: CutRoads>(
     alloc: Global,
     words: &[String],
     script: &mut I,
@@ -55,7 +56,7 @@ pub fn run<I: Source, O: Sink, S: ToldShelf, R: CutRoads>(
         CanRun S.told S.Shelf (I.left script.old) shelves.old.items →
         NoneRose I.Source O.Sink S.Shelf R.Roads script.old script.new report.old report.new
         shelves.old.items shelves.new.items roads.old roads.new → IsPlainExit result }
-    ensures over { IsOver S.told I.Source O.Sink S.Shelf S.Drawer.Files R.Roads script.old script.new report.old report.new
+    ensures over { IsOver S.told I.Source O.Sink S.Shelf F.Files R.Roads script.old script.new report.old report.new
         shelves.old.items shelves.new.items roads.new result }
 {
     match play(alloc, words, script, shelves, roads) {
@@ -65,7 +66,7 @@ pub fn run<I: Source, O: Sink, S: ToldShelf, R: CutRoads>(
 }
 
 /// Reads the words, and the script, and plays it.
-fn play<I: Source, S: ToldShelf, R: CutRoads>(
+fn play<I: Source, F: Refusing, S: ToldShelf<Drawer = F>, R: CutRoads>(
     alloc: Global,
     words: &[String],
     script: &mut I,
@@ -73,7 +74,7 @@ fn play<I: Source, S: ToldShelf, R: CutRoads>(
     roads: &mut R,
 ) -> Result<Played, Exit>
     requires unused { usage_of (map string_bytes words.now) ≡ None → AreUnused R.Roads roads.old }
-    ensures played { IfOk result (HasRun S.told I.Source S.Shelf S.Drawer.Files R.Roads script.old script.new
+    ensures played { IfOk result (HasRun S.told I.Source S.Shelf F.Files R.Roads script.old script.new
         shelves.old.items shelves.new.items roads.new) }
     ensures usage { UsageIn (usage_of (map string_bytes words.now)) result }
     ensures bad { IfErr result (IsBadIn S.told (I.left script.old) (length shelves.old.items)) }

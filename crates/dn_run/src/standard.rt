@@ -8,8 +8,8 @@ ghost use Rattle.dn_run.specs.Runs.{usage_of, folder_named, UsageFor};
 
 use crate::exits::Exit;
 use crate::running::run;
-use fault_ports::Cutting;
-use hd_base::MAX_NODES;
+use fault_ports::{Cutting, Fused};
+use hd_base::{MAX_NODES, Shelf};
 use itoa::Buffer;
 use mem_ports::{MemRoads, MemShelf};
 use real_ports::{FolderShelf, StdSink, StdSource};
@@ -88,11 +88,11 @@ pub fn run_over<S: ToldShelf, R: Read + Drop, W: Write + Drop>(
     words: &[String],
     input: R,
     output: W,
-    mut shelves: Vec<S>,
+    shelves: Vec<S>,
 ) -> Exit
     ensures { UsageFor (usage_of (map string_bytes words.now)) result }
 {
-    match run_with(alloc, words, input, output, &mut shelves) {
+    match run_with(alloc, words, input, output, shelves) {
         Ok(exit) => exit,
         Err(_) => Exit::Memory,
     }
@@ -104,7 +104,7 @@ fn run_with<S: ToldShelf, R: Read + Drop, W: Write + Drop>(
     words: &[String],
     input: R,
     output: W,
-    shelves: &mut Vec<S>,
+    shelves: Vec<S>,
 ) -> Result<Exit, AllocError>
     ensures { IfOk result (UsageFor (usage_of (map string_bytes words.now))) }
 {
@@ -115,11 +115,31 @@ fn run_with<S: ToldShelf, R: Read + Drop, W: Write + Drop>(
         faults: 0,
     };
     let mut sink = StdSink::new(alloc, output)?;
-    let exit = run(alloc, words, &mut source, &mut sink, shelves, &mut roads);
+    let mut shelves = refusing_shelves(alloc, shelves)?;
+    let exit = run(
+        alloc,
+        words,
+        &mut source,
+        &mut sink,
+        &mut shelves,
+        &mut roads,
+    );
     if is_told(&exit) && sink.flush().is_err() {
         return Ok(Exit::ReportFault);
     }
     Ok(exit)
+}
+
+/// The shelves, of which writes on data files can be refused.
+fn refusing_shelves<S: Shelf>(alloc: Global, shelves: Vec<S>) -> Result<Vec<Fused<S>>, AllocError> {
+    let mut refusing = Vec::new(alloc);
+    for shelf in shelves {
+        let Ok(fused) = Fused::new(shelf) else {
+            unreachable!();
+        };
+        refusing.push(fused)?;
+    }
+    Ok(refusing)
 }
 
 /// Whether a whole report was written before the exit.

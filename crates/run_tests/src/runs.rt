@@ -4,7 +4,7 @@ ghost use Rattle.std.specs.Prelude.{IfOk};
 ghost use Rattle.dn_run.specs.NodeOpening.Listening.{AreUnused};
 
 use dn_run::{Exit, Expected, new_roads_are_unused, run};
-use fault_ports::Cutting;
+use fault_ports::{Cutting, Fused};
 use hd_base::{BlockId, ConnId, FileName, Files, NodeId, ReplicaState, Roads, Shelf, Stamp};
 use mem_ports::{MemRoads, MemShelf, MemSink, MemSource};
 use run_words::UsageRule;
@@ -58,6 +58,14 @@ const CUT_STREAM: &[u8] =
 
 const CUT_STREAM_REPORT: &[u8] =
     b"replica 0 1 RBW 1002 1000 1000 78ba7f28 ok\nreplica 1 1 RBW 1001 1000 1000 78ba7f28 ok\nreplica 2 1 RBW 1002 1000 1000 78ba7f28 ok\nanswer 1 0 create ok 1001\nanswer 1 2 hflush ok 512 1001 0,1,2\nanswer 1 4 hflush ok 1000 1002 0,2\nend\n";
+
+/// The first write on the data file fails at the second of two members, and nothing of it is kept: the replica breaks, and
+/// the writer goes on with the first member.
+const FILE_FAULT: &[u8] =
+    b"nodes 2\nseed 0\ncreate 1 0,1\nfault 1 1\nwrite 1 0000000000000000000000000000000000000000000000000000000000000000\nhflush 1\nclose 1\n";
+
+const FILE_FAULT_REPORT: &[u8] =
+    b"replica 0 1 FINALIZED 1002 32 32 8a9136aa ok\nreplica 1 1 RBW 1001 0 0 - broken\nanswer 1 0 create ok 1001\nanswer 1 2 hflush ok 32 1002 0\nanswer 1 3 close ok 32 1002 0\nend\n";
 
 /// The second of three members stops: the writer drops it, and sends what it writes then to the others.
 const STOP_STREAM: &[u8] =
@@ -195,8 +203,14 @@ const NONE: Failing = Failing {
 struct Left {
     exit: Exit,
     report: MemSink,
-    shelves: Vec<MemShelf>,
+    shelves: Vec<Fused<MemShelf>>,
     roads: MemRoads,
+}
+
+/// An empty shelf, of whose calls the one with this number fails; none with 0.
+fn fused_shelf(alloc: Global, failing: u64) -> Result<Fused<MemShelf>, Fail> {
+    let shelf = MemShelf::new(alloc, &[failing])?;
+    Fused::new(shelf).map_err(|_| Fail::from("a shelf"))
 }
 
 /// Runs a script on three shelves, with the words of this line.
@@ -209,9 +223,9 @@ fn run_one(alloc: Global, line: &str, text: &[u8], failing: Failing) -> Result<L
     let mut source = MemSource::new(alloc, text, &[failing.at(Port::Script)])?;
     let mut report = MemSink::new(alloc, &[failing.at(Port::Report)])?;
     let mut shelves = vec![in alloc;
-        MemShelf::new(alloc, &[failing.at(Port::Shelf)])?,
-        MemShelf::new(alloc, &[])?,
-        MemShelf::new(alloc, &[])?,
+        fused_shelf(alloc, failing.at(Port::Shelf))?,
+        fused_shelf(alloc, 0)?,
+        fused_shelf(alloc, 0)?,
     ]?;
     let mut roads = Cutting::new(alloc, MemRoads::new(alloc, &[failing.at(Port::Roads)])?);
     let exit = run(
@@ -233,13 +247,14 @@ fn run_one(alloc: Global, line: &str, text: &[u8], failing: Failing) -> Result<L
 /// What each of the examples reports.
 #[test]
 fn examples_are_reported(rt: HostRuntime) -> Result<(), Fail> {
-    let table: [(&[u8], &[u8]); 13] = [
+    let table: [(&[u8], &[u8]); 14] = [
         (NINE, NINE_REPORT),
         (TWO_PACKETS, TWO_PACKETS_REPORT),
         (EMPTY, EMPTY_REPORT),
         (APPEND, APPEND_REPORT),
         (FLUSHES, FLUSHES_REPORT),
         (CUT_STREAM, CUT_STREAM_REPORT),
+        (FILE_FAULT, FILE_FAULT_REPORT),
         (STOP_STREAM, STOP_STREAM_REPORT),
         (STOP_FIRST, STOP_FIRST_REPORT),
         (START_STREAM, START_STREAM_REPORT),
@@ -407,12 +422,12 @@ fn each_call_fails_in_turn(rt: HostRuntime) -> Result<(), Fail> {
     fail_in_turn(&rt, rt.alloc(), NINE, Port::Roads, &Exit::RoadFault)
 }
 
-/// Words that aren't `play`, texts that are no script, and a line that plays don't have yet.
+/// Words that aren't `play`, and texts that are no script.
 #[test]
 fn words_and_scripts_are_refused(rt: HostRuntime) -> Result<(), Fail> {
     let usage = |rule| Exit::Usage { rule };
     let bad = |line, kind| Exit::BadScript { line, kind };
-    let table: [(&str, &[u8], Exit); 10] = [
+    let table: [(&str, &[u8], Exit); 9] = [
         ("", NINE, usage(UsageRule::Words)),
         ("walk", NINE, usage(UsageRule::Mode)),
         ("live", NINE, usage(UsageRule::Mode)),
@@ -426,11 +441,6 @@ fn words_and_scripts_are_refused(rt: HostRuntime) -> Result<(), Fail> {
         ("play", b"nodes 1\n", bad(2, BadKind::Head)),
         ("play", b"", bad(1, BadKind::Head)),
         ("play", b"nodes 4\nseed 0\n", bad(1, BadKind::TooManyNodes)),
-        (
-            "play",
-            b"nodes 1\nseed 0\nfault 0 1\n",
-            bad(3, BadKind::Word),
-        ),
     ];
     for (mode, script, wanted) in table {
         let left = run_one(rt.alloc(), mode, script, NONE)?;

@@ -1,4 +1,7 @@
 -- A play that was opened can play its lines.
+use Rattle.std.specs.Prelude.{replicate, unwrap_or}
+use Rattle.std.specs.Global.{Vec}
+use Rattle.std.proofs.lemmas.List.{length-replicate}
 use Rattle.std.proofs.Common.{◌≡◌, ◌≤◌, ◌+◌, ℕ, zero, suc, true, false, List, [], ◌∷◌, length, slice_get, Some, refl, sym, ap, subst, ◌∙◌, arith, None}
 use Rattle.hd_base.specs.declared.files.Files as files
 use Rattle.hd_base.specs.declared.links.LinkIn as link_in
@@ -35,8 +38,8 @@ use Rattle.play_report.specs.PlayReaders.ReadClient.{ReadClient}
 use Rattle.play_report.specs.PlayReaders.Asks.{asks_of}
 use Rattle.completing_lines.specs.PlayLines.Playing.{Playing}
 use Rattle.completing_lines.specs.PlayLines.Lines.{GivenIs, IsBehind, CreatesHere, AllCreateHere}
-use Rattle.completing_lines.specs.PlayLines.Showing.{given_in}
-use Rattle.whole_play.specs.Opening.{HeadFits, first_of, Begins, HasOpened}
+use Rattle.completing_lines.specs.PlayLines.Showing.{FaultsShow, given_in}
+use Rattle.whole_play.specs.Opening.{HeadFits, HaveNoFaults, first_of, Begins, HasOpened}
 
 -- NOTHING WAS GIVEN
 
@@ -88,6 +91,19 @@ nothing_asked ask e = cc
 nothing_recovered : (rec : Recovery) → None ≡ Some rec → ⊥
 nothing_recovered rec e = cc
 
+none_of_zeros : (n k : ℕ) → ◌≡◌ {A = ℕ} (unwrap_or (slice_get (replicate n 0) k) 0) 0
+none_of_zeros zero k = refl
+none_of_zeros (suc n) zero = refl
+none_of_zeros (suc n) (suc k) = none_of_zeros n k
+
+-- no write is to fail
+no_faults : {D : Type 0} (d : files.Ghosts D) (nodes : ℕ) (numbers : List ℕ) → HaveNoFaults nodes numbers → FaultsShow d nodes (λ node. 0) numbers
+no_faults d nodes numbers none = record {
+  count = ap length none ∙ length-replicate nodes 0;
+  tells = λ node. ap (λ (ns : List ℕ). unwrap_or (slice_get ns node) 0) none ∙ none_of_zeros nodes node;
+  told = λ node some. absurd (some refl);
+}
+
 few_lines : (n : ℕ) → n ≤ MAX_COMMANDS → 0 + n ≤ MAX_COMMANDS
 few_lines n h = omega (arith, h)
 
@@ -109,10 +125,10 @@ module _ {S D R I O : Type 0} (s : shelves.Ghosts S D) (d : files.Ghosts D) (r :
         opened_so = subst (λ (bs : List BlockId). IsOpenedPlay s d bs old new x.player) (sym same) h;
       }
 
-  pub begins : (head : Head) (lines : List ScriptLine) (old new : List S) (road : R) (blocks : List BlockId) (player : Player D I O) (generator : Lcg) (live : LiveConns) → HeadFits (length old) head lines → AreBlocks lines blocks → IsOpenedPlay s d blocks old new player → PlayStands r i o (length old) no_commands road player → generator ≡ (first_of head).generator
-      → CoversNone live → Begins d r i o head lines road (record { nodes = head.nodes; player = player; generator = generator; live = live })
-  begins head lines old new road blocks player generator live fits are h stands drawn covers =
-      let x : Playing D I O = record { nodes = head.nodes; player = player; generator = generator; live = live } in
+  pub begins : (head : Head) (lines : List ScriptLine) (old new : List S) (road : R) (blocks : List BlockId) (player : Player D I O) (generator : Lcg) (faults : Vec ℕ) (live : LiveConns) → HeadFits (length old) head lines → AreBlocks lines blocks → IsOpenedPlay s d blocks old new player → PlayStands r i o (length old) no_commands road player → generator ≡ (first_of head).generator
+      → HaveNoFaults head.nodes faults.items → CoversNone live → Begins d r i o head lines road (record { nodes = head.nodes; player = player; generator = generator; faults = faults; live = live })
+  begins head lines old new road blocks player generator faults live fits are h stands drawn none covers =
+      let x : Playing D I O = record { nodes = head.nodes; player = player; generator = generator; faults = faults; live = live } in
       record {
         are = subst (λ (bs : List BlockId). AreBlocks lines bs) (sym h.nodes.blocks_are) are;
         clients = h.clients.order ∙ sym h.nodes.blocks_are;
@@ -121,6 +137,7 @@ module _ {S D R I O : Type 0} (s : shelves.Ghosts S D) (d : files.Ghosts D) (r :
           nodes_are = refl;
           events = sym h.events;
           generator = drawn;
+          faults = no_faults d head.nodes faults.items none;
           asks = ap (λ (cs : List (ReadClient I O)). asks_of cs) h.reads.clients;
           told = λ k ask at. absurd (nothing_asked ask at);
           recovers = ap (λ (cs : List (PrimaryClient I O)). recoveries_of cs) h.recoveries.clients;

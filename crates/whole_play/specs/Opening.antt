@@ -1,5 +1,5 @@
 -- The play of a script is opened.
-use Rattle.std.specs.Prelude.{◌≡◌, ◌≤◌, ℕ, List, ◌∷◌, length}
+use Rattle.std.specs.Prelude.{◌≡◌, ◌≤◌, ℕ, List, ◌∷◌, length, replicate}
 use Rattle.hd_base.specs.declared.files.Files as files
 use Rattle.hd_base.specs.declared.links.LinkIn as link_in
 use Rattle.hd_base.specs.declared.links.LinkOut as link_out
@@ -40,6 +40,10 @@ pub record HeadFits (shelves : ℕ) (head : Head) (lines : List ScriptLine) : Ty
   pub ascend : LinesAscend 0 lines
 
 -- PLAYS
+
+-- the numbers of so many nodes, at none of which a write is to fail
+abbrev pub HaveNoFaults : ℕ → List ℕ → Type 0
+HaveNoFaults nodes numbers = numbers ≡ replicate nodes 0
 
 -- the play before the first line behind the head
 abbrev pub first_of : Head → PlayState

@@ -25,6 +25,7 @@ use play_report::{
     nets_carry, only_nodes_run, opened_nodes_stand, plays_ask_by_number, plays_recover_by_number,
     reports_are_true, reports_keep_nodes, shown_nodes_fit, standing_nodes_close, write_report,
 };
+use refusing_files::Refusing;
 use script_lang::ScriptLine;
 use std::alloc::Global;
 use told_shelves::ToldShelf;
@@ -41,10 +42,10 @@ pub struct Played {
     pub difference: Option<Difference>,
 }
 
-/// Plays a script over the first of the shelves, one for each node, and over roads that are unused. Lines that plays don't
-/// have yet do nothing; a node starts, and a reader asks, only over shelves that tell their files. What the shelves have
+/// Plays a script over the first of the shelves, one for each node, and over roads that are unused. A node starts, a
+/// reader asks, and a write on a data file is to fail, only over shelves that tell their files. What the shelves have
 /// lent is given back, whatever the result is.
-pub fn play_script<S: ToldShelf, R: CutRoads>(
+pub fn play_script<F: Refusing, S: ToldShelf<Drawer = F>, R: CutRoads>(
     alloc: Global,
     roads: &mut R,
     shelves: &mut [S],
@@ -53,7 +54,7 @@ pub fn play_script<S: ToldShelf, R: CutRoads>(
     requires unused { AreUnused R.Roads roads.old }
     requires fits { ScriptFits (length shelves.old) script.now }
     requires told { LinesAreTold S.told script.now }
-    ensures played { IfOk result (IsPlayed S.Shelf S.Drawer.Files R.Roads script.now shelves.old shelves.new roads.new) }
+    ensures played { IfOk result (IsPlayed S.Shelf F.Files R.Roads script.now shelves.old shelves.new roads.new) }
     ensures cause { IfErr result (HasUsedCause S.Shelf R.Roads script.now
         shelves.old shelves.new roads.old roads.new) }
     ensures shelves { IfSome (head_of script.now) (LeavesShelves S.Shelf shelves.old shelves.new) }
@@ -71,7 +72,7 @@ pub fn play_script<S: ToldShelf, R: CutRoads>(
 }
 
 /// Plays a script with this head over as many shelves as it has nodes.
-fn play_on<S: ToldShelf, R: CutRoads>(
+fn play_on<F: Refusing, S: ToldShelf<Drawer = F>, R: CutRoads>(
     alloc: Global,
     roads: &mut R,
     shelves: &mut [S],
@@ -82,14 +83,14 @@ fn play_on<S: ToldShelf, R: CutRoads>(
     requires head { HasHead head (drop HEAD_LINES script.now) script.now }
     requires fits { HeadFits (length shelves.old) head (drop HEAD_LINES script.now) }
     requires told { LinesAreTold S.told script.now }
-    ensures closed { IfOk result (IsClosed S.Shelf S.Drawer.Files R.Roads script.now shelves.old shelves.new roads.new) }
+    ensures closed { IfOk result (IsClosed S.Shelf F.Files R.Roads script.now shelves.old shelves.new roads.new) }
     ensures cause { IfErr result (HasCause S.Shelf R.Roads shelves.old shelves.new roads.old roads.new) }
     ensures lent { EachShelf (LendsNoMore S.Shelf) shelves.old shelves.new }
 {
     opened_nodes_stand::<S, R::Inward, R::Outward>();
     standing_nodes_close::<S, R::Inward, R::Outward>();
-    shown_nodes_fit::<S::Drawer, R::Inward, R::Outward>();
-    fitting_books_are_of_blocks::<S::Drawer>();
+    shown_nodes_fit::<F, R::Inward, R::Outward>();
+    fitting_books_are_of_blocks::<F>();
     replicas_have_their_bytes();
     let (_, lines) = script.split_at(HEAD_LINES);
     let mut playing = open_play(alloc, roads, shelves, head, lines)?;
@@ -101,7 +102,7 @@ fn play_on<S: ToldShelf, R: CutRoads>(
 
 /// Plays the lines behind the head of a script over the shelves of its nodes, and makes the report.
 fn play_through<
-    F: Files,
+    F: Refusing,
     I: LinkIn,
     O: LinkOut,
     S: ToldShelf<Drawer = F>,

@@ -114,7 +114,7 @@ pub returns-clause-played : goal.returns-clause-played
 returns-clause-played g c =
     let i = g.I.Source in
     let s = g.S.Shelf in
-    let d = g.S.Drawer.Files in
+    let d = g.F.Files in
     let r = g.R.Roads in
     let script = c.args.script.now in
     let script' = c.read_lines.new.source in

@@ -18,7 +18,7 @@ returns-in-Ok-clause-refused g c = λ none.
 
 pub returns-in-Ok-clause-over : goal.returns-in-Ok-clause-over
 returns-in-Ok-clause-over g c =
-    written_over g.O.Sink c.args.report.now c.write_report.new.sink c.in-Ok.played g.S.ToldShelf.told g.I.Source g.S.Shelf g.S.Drawer.Files g.R.Roads c.args.script.now c.play.new.script c.args.shelves.now.items c.play.new.shelves.items c.play.new.roads c.write_report.result
+    written_over g.O.Sink c.args.report.now c.write_report.new.sink c.in-Ok.played g.S.ToldShelf.told g.I.Source g.S.Shelf g.F.Files g.R.Roads c.args.script.now c.play.new.script c.args.shelves.now.items c.play.new.shelves.items c.play.new.roads c.write_report.result
     c.in-Ok.ensures.played c.write_report.ensures
 
 pub returns-in-Err-clause-faultless : goal.returns-in-Err-clause-faultless

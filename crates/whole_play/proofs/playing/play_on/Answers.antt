@@ -27,7 +27,7 @@ play_through-played-requires-clause-begins g c κs within =
       head = c.args.head;
       shelved = stood.0.count ∙ sym c.requires.fits.nodes;
       has_head = c.requires.head;
-      begins = subst (λ (ls : List ScriptLine). Begins g.S.Drawer.Files g.R.Roads g.R.Inward.LinkIn g.R.Outward.LinkOut c.args.head ls c.open_play.new.roads x) c.split_at.ensures.back c.in_ok-playing.ensures.begins;
+      begins = subst (λ (ls : List ScriptLine). Begins g.F.Files g.R.Roads g.R.Inward.LinkIn g.R.Outward.LinkOut c.args.head ls c.open_play.new.roads x) c.split_at.ensures.back c.in_ok-playing.ensures.begins;
     }
 
 pub play_through-played-requires-clause-serve : goal.play_through-played-requires-clause-serve
@@ -61,7 +61,7 @@ close_nodes-requires-clause-lent g c κs within =
 pub returns-clause-cause : goal.returns-clause-cause
 returns-clause-cause g c =
     let s = g.S.Shelf in
-    let d = g.S.Drawer.Files in
+    let d = g.F.Files in
     let r = g.R.Roads in
     let x = c.in_ok-playing.playing in
     let y = c.play_through-played.new.playing in
@@ -84,7 +84,7 @@ returns-clause-cause g c =
 pub returns-clause-closed : goal.returns-clause-closed
 returns-clause-closed g c =
     let s = g.S.Shelf in
-    let d = g.S.Drawer.Files in
+    let d = g.F.Files in
     let r = g.R.Roads in
     let i = g.R.Inward.LinkIn in
     let o = g.R.Outward.LinkOut in
@@ -111,7 +111,7 @@ returns-in_err-playing-clause-lent g c =
 pub returns-clause-lent : goal.returns-clause-lent
 returns-clause-lent g c =
     let s = g.S.Shelf in
-    let d = g.S.Drawer.Files in
+    let d = g.F.Files in
     let x = c.in_ok-playing.playing in
     let y = c.play_through-played.new.playing in
     let opened = c.in_ok-playing.ensures.opened in

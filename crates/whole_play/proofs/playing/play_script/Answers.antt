@@ -9,7 +9,7 @@ use Rattle.whole_play.proofs.playing.play_script.Goals as goal
 pub returns-clause-played : goal.returns-clause-played
 returns-clause-played g c =
     let s = g.S.Shelf in
-    let d = g.S.Drawer.Files in
+    let d = g.F.Files in
     let r = g.R.Roads in
     let script = c.args.script.now in
     let head = c.in-Some.head in
@@ -31,7 +31,7 @@ returns-clause-cause g c =
     let road' = c.play_on.new.roads in
     let count = count_so head.nodes old new c.play_on.ensures.lent.count (nodes_within (length old) script head c.requires.fits c.in-Some.ensures) in
     err_map c.play_on.result (HasCause s r (take head.nodes old) new road road') (HasUsedCause s r script old (new ++ drop head.nodes old) road road')
-    (λ why cause. cause_front s g.S.Drawer.Files r script head old new road road' why (sym c.in-Some.ensures) count cause) c.play_on.ensures.cause
+    (λ why cause. cause_front s g.F.Files r script head old new road road' why (sym c.in-Some.ensures) count cause) c.play_on.ensures.cause
 
 pub returns-clause-shelves : goal.returns-clause-shelves
 returns-clause-shelves g c =
@@ -41,4 +41,4 @@ returns-clause-shelves g c =
     let new = c.play_on.new.shelves in
     let few = nodes_within (length old) c.args.script.now head c.requires.fits c.in-Some.ensures in
     subst (λ (h : Option Head). IfSome h (LeavesShelves s old (new ++ drop head.nodes old))) c.in-Some.ensures
-    (leaves_front s g.S.Drawer.Files g.R.Roads head old new (count_so head.nodes old new c.play_on.ensures.lent.count few) few c.play_on.ensures.lent)
+    (leaves_front s g.F.Files g.R.Roads head old new (count_so head.nodes old new c.play_on.ensures.lent.count few) few c.play_on.ensures.lent)
