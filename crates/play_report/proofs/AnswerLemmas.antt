@@ -16,8 +16,8 @@ use Rattle.script_lang.specs.declared.report.ReportLine.{ReportLine}
 use Rattle.world.specs.Parts as parts
 use Rattle.writer_core.specs.declared.actions.ClientAnswer.{ClientAnswer}
 use Rattle.play_report.specs.Results.{answer_of}
-use Rattle.play_report.specs.Answers.{lines_text, told, answer_at, said_in, is_given, answer_line, line_answers, next_ordinal, answer_lines, client_lines}
-use Rattle.play_report.proofs.TextLemmas.{text_more, next_appended}
+use Rattle.play_report.specs.Answers.{told, answer_at, said_in, is_given, answer_line, line_answers, next_ordinal, answer_lines, client_lines}
+use Rattle.play_report.proofs.AppendLemmas.{next_appended}
 
 -- LISTS
 
@@ -73,15 +73,15 @@ got_is xs k (Some x) e h = sym (element_some xs k x.now (ltb-true k (length xs) 
 -- ONE LINE
 
 -- What a line's command was answered is appended.
-pub line_appended : (all mid new : List ℕ) (b : ℕ) (said : List parts.Said) (n next : ℕ) (l : ScriptLine) (lines : List ScriptLine) (k : ℕ) (o : Option ClientAnswer)
+pub line_appended : (all mid new : List ReportLine) (b : ℕ) (said : List parts.Said) (n next : ℕ) (l : ScriptLine) (lines : List ScriptLine) (k : ℕ) (o : Option ClientAnswer)
     → drop k lines ≡ l ∷ drop (k + 1) lines → o ≡ told said n → next ≡ next_ordinal b n l
-    → mid ++ lines_text (answer_lines b said n (drop k lines)) ≡ all → new ≡ mid ++ lines_text (line_answers b n l o)
-    → new ++ lines_text (answer_lines b said next (drop (k + 1) lines)) ≡ all
+    → mid ++ answer_lines b said n (drop k lines) ≡ all → new ≡ mid ++ line_answers b n l o
+    → new ++ answer_lines b said next (drop (k + 1) lines) ≡ all
 line_appended all mid new b said n next l lines k o is told_is next_is h e =
-    next_appended all mid mid new (line_answers b n l (told said n)) (answer_lines b said next (drop (k + 1) lines))
-    (ap (λ (xs : List ReportLine). mid ++ lines_text xs)
+    next_appended all mid new (line_answers b n l (told said n)) (answer_lines b said next (drop (k + 1) lines))
+    (ap (λ (xs : List ReportLine). mid ++ xs)
     (ap (λ (m : ℕ). line_answers b n l (told said n) ++ answer_lines b said m (drop (k + 1) lines)) next_is ∙ sym (ap (λ (ls : List ScriptLine). answer_lines b said n ls) is)) ∙ h)
-    (e ∙ ap (λ (p : Option ClientAnswer). mid ++ lines_text (line_answers b n l p)) told_is)
+    (e ∙ ap (λ (p : Option ClientAnswer). mid ++ line_answers b n l p) told_is)
 
 -- There are no more commands than lines.
 pub next_within : (b n next i : ℕ) (l : ScriptLine) → next ≡ next_ordinal b n l → n ≤ i → next ≤ i + 1
@@ -99,21 +99,21 @@ pub given_next : (b n : ℕ) (l : ScriptLine) (t : Bool) → is_given b l.instru
 given_next b n l t e = ap (λ (q : Bool). cond q (n + 1) n) e
 
 -- Behind the last line all is appended.
-pub answers_end : (all out : List ℕ) (b : ℕ) (said : List parts.Said) (n : ℕ) (lines : List ScriptLine) (k : ℕ) → length lines ≤ k
-    → out ++ lines_text (answer_lines b said n (drop k lines)) ≡ all → out ≡ all
+pub answers_end : (all out : List ReportLine) (b : ℕ) (said : List parts.Said) (n : ℕ) (lines : List ScriptLine) (k : ℕ) → length lines ≤ k
+    → out ++ answer_lines b said n (drop k lines) ≡ all → out ≡ all
 answers_end all out b said n lines k past h =
-    sym (append-nil out) ∙ (ap (λ (xs : List ReportLine). out ++ lines_text xs) (sym (at_drop_all (λ (ls : List ScriptLine). answer_lines b said n ls) lines k past)) ∙ h)
+    sym (append-nil out) ∙ (ap (λ (xs : List ReportLine). out ++ xs) (sym (at_drop_all (λ (ls : List ScriptLine). answer_lines b said n ls) lines k past)) ∙ h)
 
 -- ALL CLIENTS
 
 module _ {I O : Type 0} where
   -- One client more.
-  pub clients_more : (old mid new : List ℕ) (lines : List ScriptLine) (clients : List (Client I O)) (k : ℕ) (c : Client I O) → slice_get clients k ≡ Some c
-      → mid ≡ old ++ lines_text (flat_map (λ (c : Client I O). client_lines lines c) (take k clients)) → new ≡ mid ++ lines_text (client_lines lines c)
-      → new ≡ old ++ lines_text (flat_map (λ (c : Client I O). client_lines lines c) (take (k + 1) clients))
+  pub clients_more : (old mid new : List ReportLine) (lines : List ScriptLine) (clients : List (Client I O)) (k : ℕ) (c : Client I O) → slice_get clients k ≡ Some c
+      → mid ≡ old ++ flat_map (λ (c : Client I O). client_lines lines c) (take k clients) → new ≡ mid ++ client_lines lines c
+      → new ≡ old ++ flat_map (λ (c : Client I O). client_lines lines c) (take (k + 1) clients)
   clients_more old mid new lines clients k c at h e =
-      e ∙ (ap (λ (t : List ℕ). t ++ lines_text (client_lines lines c)) h ∙ (append_assoc old (lines_text (front (take k clients))) (lines_text (client_lines lines c)) ∙
-      ap (λ (t : List ℕ). old ++ t) (sym (text_more (front (take k clients)) (client_lines lines c)) ∙ ap lines_text (more clients k c at))))
+      e ∙ (ap (λ (t : List ReportLine). t ++ client_lines lines c) h ∙ (append_assoc old (front (take k clients)) (client_lines lines c) ∙
+      ap (λ (t : List ReportLine). old ++ t) (more clients k c at)))
     where
       front : List (Client I O) → List ReportLine
       front cs = flat_map (λ (c : Client I O). client_lines lines c) cs

@@ -1,4 +1,4 @@
-pub mod TextLemmas
+pub mod AppendLemmas
 pub mod AnswerLemmas
 pub mod ReadLemmas
 pub mod RecoveryLemmas

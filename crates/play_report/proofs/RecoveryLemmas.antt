@@ -19,10 +19,9 @@ use Rattle.script_lang.specs.declared.report.RecoveryResult.{RecoveryResult}
 use Rattle.script_lang.specs.declared.report.ReportLine.{ReportLine}
 use Rattle.script_lang.specs.declared.report.ReportLine.TheVariants as line
 use Rattle.world.specs.Worlds.{World}
-use Rattle.play_report.specs.Answers.{lines_text}
 use Rattle.play_report.specs.Reads.{read_line}
 use Rattle.play_report.specs.Recoveries.{primary_told, recovery_line, asked_lines, led_told, client_recovery, first_if, rest_if, recovers, next_lines, merged}
-use Rattle.play_report.proofs.TextLemmas.{next_appended}
+use Rattle.play_report.proofs.AppendLemmas.{next_appended}
 
 -- THE ORDER OF THE LINES
 
@@ -74,12 +73,12 @@ rest_mapped f true (x ∷ xs) = refl
 rest_mapped f false xs = refl
 
 -- What stands behind a line of the script was appended; what is left is that of the lines behind it.
-pub next_asked : {A B : Type 0} (f : A → ReportLine) (g : B → ReportLine) (all mid new : List ℕ) (reads reads' : List A) (led led' : List B) (l : ScriptLine) (lines rest : List ScriptLine)
-    → lines ≡ l ∷ rest → mid ++ lines_text (merged (map f reads) (map g led) lines) ≡ all → new ≡ mid ++ lines_text (next_lines (map f reads) (map g led) l)
-    → reads' ≡ rest_if (is_read l.instruction) reads → led' ≡ rest_if (recovers l) led → new ++ lines_text (merged (map f reads') (map g led') rest) ≡ all
+pub next_asked : {A B : Type 0} (f : A → ReportLine) (g : B → ReportLine) (all mid new : List ReportLine) (reads reads' : List A) (led led' : List B) (l : ScriptLine) (lines rest : List ScriptLine)
+    → lines ≡ l ∷ rest → mid ++ merged (map f reads) (map g led) lines ≡ all → new ≡ mid ++ next_lines (map f reads) (map g led) l
+    → reads' ≡ rest_if (is_read l.instruction) reads → led' ≡ rest_if (recovers l) led → new ++ merged (map f reads') (map g led') rest ≡ all
 next_asked f g all mid new reads reads' led led' l lines rest at h e r p =
-    next_appended all mid mid new (next_lines (map f reads) (map g led) l) (merged (map f reads') (map g led') rest)
-    (ap (λ (xs : List ReportLine). mid ++ lines_text (next_lines (map f reads) (map g led) l ++ xs)) left ∙ (ap (λ (xs : List ScriptLine). mid ++ lines_text (merged (map f reads) (map g led) xs)) (sym at) ∙ h)) e
+    next_appended all mid new (next_lines (map f reads) (map g led) l) (merged (map f reads') (map g led') rest)
+    (ap (λ (xs : List ReportLine). mid ++ (next_lines (map f reads) (map g led) l ++ xs)) left ∙ (ap (λ (xs : List ScriptLine). mid ++ merged (map f reads) (map g led) xs) (sym at) ∙ h)) e
   where
     left : merged (map f reads') (map g led') rest ≡ merged (rest_if (is_read l.instruction) (map f reads)) (rest_if (recovers l) (map g led)) rest
     left =
@@ -87,14 +86,14 @@ next_asked f g all mid new reads reads' led led' l lines rest at h e r p =
         ap (λ (xs : List ReportLine). merged (rest_if (is_read l.instruction) (map f reads)) xs rest) (ap (map g) p ∙ rest_mapped g (recovers l) led)
 
 -- Where the lines are over nothing is left.
-pub all_asked : {A B : Type 0} (f : A → ReportLine) (g : B → ReportLine) (all out : List ℕ) (reads : List A) (led : List B) (lines : List ScriptLine) → lines ≡ [] → out ++ lines_text (merged (map f reads) (map g led) lines) ≡ all → out ≡ all
-all_asked f g all out reads led lines over h = sym (append-nil out) ∙ (ap (λ (xs : List ScriptLine). out ++ lines_text (merged (map f reads) (map g led) xs)) (sym over) ∙ h)
+pub all_asked : {A B : Type 0} (f : A → ReportLine) (g : B → ReportLine) (all out : List ReportLine) (reads : List A) (led : List B) (lines : List ScriptLine) → lines ≡ [] → out ++ merged (map f reads) (map g led) lines ≡ all → out ≡ all
+all_asked f g all out reads led lines over h = sym (append-nil out) ∙ (ap (λ (xs : List ScriptLine). out ++ merged (map f reads) (map g led) xs) (sym over) ∙ h)
 
 -- A line that reads has told what the first reader came to.
-pub read_next : (x : Instruction) (old new : List ℕ) (reads led : List ReportLine) → is_read x ≡ true → new ≡ old ++ lines_text (first_if true reads)
-    → new ≡ old ++ lines_text (first_if (is_read x) reads ++ first_if (if is_read x then false else is_recovery x) led)
+pub read_next : (x : Instruction) (old new : List ReportLine) (reads led : List ReportLine) → is_read x ≡ true → new ≡ old ++ first_if true reads
+    → new ≡ old ++ (first_if (is_read x) reads ++ first_if (if is_read x then false else is_recovery x) led)
 read_next x old new reads led is e = by (is_read x) is
   where
-    by : (b : Bool) → b ≡ true → new ≡ old ++ lines_text (first_if b reads ++ first_if (if b then false else is_recovery x) led)
-    by true h = e ∙ ap (λ (xs : List ReportLine). old ++ lines_text xs) (sym (append-nil (first_if true reads)))
+    by : (b : Bool) → b ≡ true → new ≡ old ++ (first_if b reads ++ first_if (if b then false else is_recovery x) led)
+    by true h = e ∙ ap (λ (xs : List ReportLine). old ++ xs) (sym (append-nil (first_if true reads)))
     by false h = cc

@@ -11,21 +11,20 @@ use Rattle.replica_files.specs.Summing.{SumsWritten}
 use Rattle.replica_model.specs.Rows.{FullReplica}
 use Rattle.script_lang.specs.declared.report.ReportLine.{ReportLine}
 use Rattle.play_report.specs.declared.rows.Row.{Row}
-use Rattle.play_report.specs.Answers.{lines_text}
 use Rattle.play_report.specs.Replicas.{sum_told, info_lines, replica_lines, row_lines}
 use Rattle.play_report.proofs.AnswerLemmas.{drop_at}
-use Rattle.play_report.proofs.TextLemmas.{next_appended}
+use Rattle.play_report.proofs.AppendLemmas.{next_appended}
 use Rattle.std.proofs.lemmas.Bool.{cases_lt}
 use Rattle.std.proofs.lemmas.List.{append-nil, at_drop_all}
 
 -- STEPS
 
-pub row_next : (all mid new : List ℕ) (node : ℕ) (blocks : List BlockId) (rows : List Row) (k : ℕ) (b : BlockId) (row : Row) → slice_get blocks k ≡ Some b → slice_get rows k ≡ Some row
-    → mid ++ lines_text (row_lines node (drop k blocks) (drop k rows)) ≡ all → new ≡ mid ++ lines_text (info_lines node b.0 row.sum row.info)
-    → new ++ lines_text (row_lines node (drop (k + 1) blocks) (drop (k + 1) rows)) ≡ all
+pub row_next : (all mid new : List ReportLine) (node : ℕ) (blocks : List BlockId) (rows : List Row) (k : ℕ) (b : BlockId) (row : Row) → slice_get blocks k ≡ Some b → slice_get rows k ≡ Some row
+    → mid ++ row_lines node (drop k blocks) (drop k rows) ≡ all → new ≡ mid ++ info_lines node b.0 row.sum row.info
+    → new ++ row_lines node (drop (k + 1) blocks) (drop (k + 1) rows) ≡ all
 row_next all mid new node blocks rows k b row at at' h e =
-    next_appended all mid mid new (info_lines node b.0 row.sum row.info) (row_lines node (drop (k + 1) blocks) (drop (k + 1) rows))
-    (ap (λ (xs : List ReportLine). mid ++ lines_text xs) (sym (ap (λ (bs : List BlockId). row_lines node bs (drop k rows)) (drop_at blocks k b at) ∙ ap (λ (rs : List Row). row_lines node (b ∷ drop (k + 1) blocks) rs) (drop_at rows k row at'))) ∙ h)
+    next_appended all mid new (info_lines node b.0 row.sum row.info) (row_lines node (drop (k + 1) blocks) (drop (k + 1) rows))
+    (ap (λ (xs : List ReportLine). mid ++ xs) (sym (ap (λ (bs : List BlockId). row_lines node bs (drop k rows)) (drop_at blocks k b at) ∙ ap (λ (rs : List Row). row_lines node (b ∷ drop (k + 1) blocks) rs) (drop_at rows k row at'))) ∙ h)
     e
 
 none_rows : (node : ℕ) (blocks : List BlockId) → row_lines node blocks [] ≡ []
@@ -33,9 +32,9 @@ none_rows node [] = refl
 none_rows node (b ∷ blocks) = refl
 
 -- Behind the last block or the last row all is appended.
-pub rows_end : (all out : List ℕ) (node : ℕ) (blocks : List BlockId) (rows : List Row) (k : ℕ) → min (length blocks) (length rows) ≤ k
-    → out ++ lines_text (row_lines node (drop k blocks) (drop k rows)) ≡ all → out ≡ all
-rows_end all out node blocks rows k past h = sym (append-nil out) ∙ (ap (λ (xs : List ReportLine). out ++ lines_text xs) (sym (ends (which past))) ∙ h)
+pub rows_end : (all out : List ReportLine) (node : ℕ) (blocks : List BlockId) (rows : List Row) (k : ℕ) → min (length blocks) (length rows) ≤ k
+    → out ++ row_lines node (drop k blocks) (drop k rows) ≡ all → out ≡ all
+rows_end all out node blocks rows k past h = sym (append-nil out) ∙ (ap (λ (xs : List ReportLine). out ++ xs) (sym (ends (which past))) ∙ h)
   where
     which : min (length blocks) (length rows) ≤ k → (length blocks ≤ k) ⊎ (length rows ≤ k)
     which p = either (cases_lt (length blocks) (length rows)) p

@@ -36,7 +36,7 @@ use Rattle.script_lang.specs.declared.report.ReportLine.TheVariants as line
 use Rattle.world.specs.Parts as parts
 use Rattle.world.specs.Worlds.{World}
 use Rattle.play_report.specs.declared.rows.Row.{Row}
-use Rattle.play_report.specs.Answers.{lines_text, answer_lines, said_in, client_lines}
+use Rattle.play_report.specs.Answers.{answer_lines, said_in, client_lines}
 use Rattle.play_report.specs.Reads.{read_line, client_read}
 use Rattle.play_report.specs.Recoveries.{asked_lines, recovery_line, client_recovery, merged}
 use Rattle.play_report.specs.Replicas.{SumTable, info_lines, replica_lines, replicas_lines, node_lines, nodes_lines, rows_lines, all_lines}
@@ -45,7 +45,7 @@ use Rattle.play_report.specs.Rows.{IsRow, AreRows, AreRowsIf, NodesHaveRows}
 use Rattle.play_report.proofs.ReadLemmas.{reads_are}
 use Rattle.play_report.proofs.RecoveryLemmas.{asked_are, recoveries_are}
 use Rattle.play_report.proofs.ReplicaLemmas.{row_is, sum_found, found_at, rows_are}
-use Rattle.play_report.proofs.TextLemmas.{text_more, upto_same}
+use Rattle.play_report.proofs.AppendLemmas.{upto_same}
 use Rattle.play_clients.specs.PlayModel.Dues.{upto}
 
 -- ANSWERS
@@ -182,43 +182,37 @@ module _ {F I O : Type 0} (f : files.Ghosts F) (i : link_in.Ghosts I) (o : link_
             none h = cc
         value files r (Some t) h whole s e = subst (λ (q : ℕ). IfSome files (λ _. q ≡ sum_of kind.Crc32c r.bytes)) (sym e) h.value
 
--- THE TEXT
+-- THE LINES
 
-pub report_is : {F I O : Type 0} (f : files.Ghosts F) (i : link_in.Ghosts I) (o : link_out.Ghosts O) (count : ℕ) (running : List Bool) (n : Nodes F I O) (clients : List (Client I O)) (reads : List (ReadClient I O)) (recoveries : List (PrimaryClient I O)) (lines : List ScriptLine) (all : List (Vec Row)) (text : List ℕ)
+pub report_is : {F I O : Type 0} (f : files.Ghosts F) (i : link_in.Ghosts I) (o : link_out.Ghosts O) (count : ℕ) (running : List Bool) (n : Nodes F I O) (clients : List (Client I O)) (reads : List (ReadClient I O)) (recoveries : List (PrimaryClient I O)) (lines : List ScriptLine) (all : List (Vec Row)) (report : List ReportLine)
     → NodesHaveRows f count running n.nodes.items all
-    → text ≡ ((lines_text (all_lines running n.blocks.items all count) ++ lines_text (flat_map (λ (c : Client I O). client_lines lines c) clients)) ++ lines_text (merged (map client_read reads) (map client_recovery recoveries) lines)) ++ printed line.End
-    → Reports f i o count running n clients reads recoveries lines text
-report_is {F} {I} {O} f i o count running n clients reads recoveries lines all text rows is = λ w net na ca ra pa.
+    → report ≡ ((all_lines running n.blocks.items all count ++ flat_map (λ (c : Client I O). client_lines lines c) clients) ++ merged (map client_read reads) (map client_recovery recoveries) lines) ++ line.End ∷ []
+    → Reports f i o count running n clients reads recoveries lines report
+report_is {F} {I} {O} f i o count running n clients reads recoveries lines all report rows is = λ w net na ca ra pa.
     let sums = table n.blocks.items all in
     let blocks = numbers n.blocks.items in
     record {
       sums = sums;
       are = sums_are f i o w net n na.show count running all rows na.count_is na.tells;
-      text_is = is ∙ (parts _ (nodes_lines w sums blocks) _ (all_answers w blocks lines) _ (asked_lines w lines)
+      lines_are = is ∙ parts _ (nodes_lines w sums blocks) _ (all_answers w blocks lines) _ (asked_lines w lines)
           (nodes_are f i o w net n na.show count running all rows na.count_is na.tells)
           (clients_are w lines clients ca.said ∙ ap (λ (bs : List ℕ). all_answers w bs lines) ca.blocks)
           (ap (λ (xs : List ReportLine). merged xs (map client_recovery recoveries) lines) (reads_are i o w net reads ra.each ∙ ap (map (read_line w)) ra.numbers) ∙
-          (ap (λ (xs : List ReportLine). merged (map (read_line w) (read_numbers lines)) xs lines) (recoveries_are i o w net recoveries pa.each ∙ ap (map (recovery_line w)) pa.numbers) ∙ asked_are w lines)) ∙
-          whole (nodes_lines w sums blocks) (all_answers w blocks lines) (asked_lines w lines));
+          (ap (λ (xs : List ReportLine). merged (map (read_line w) (read_numbers lines)) xs lines) (recoveries_are i o w net recoveries pa.each ∙ ap (map (recovery_line w)) pa.numbers) ∙ asked_are w lines));
     }
   where
     parts : (xs xs' ys ys' zs zs' : List ReportLine) → xs ≡ xs' → ys ≡ ys' → zs ≡ zs'
-        → ((lines_text xs ++ lines_text ys) ++ lines_text zs) ++ printed line.End ≡ ((lines_text xs' ++ lines_text ys') ++ lines_text zs') ++ printed line.End
+        → ((xs ++ ys) ++ zs) ++ line.End ∷ [] ≡ ((xs' ++ ys') ++ zs') ++ line.End ∷ []
     parts xs xs' ys ys' zs zs' e f g =
-        ap (λ (ls : List ReportLine). ((lines_text ls ++ lines_text ys) ++ lines_text zs) ++ printed line.End) e ∙
-        (ap (λ (ls : List ReportLine). ((lines_text xs' ++ lines_text ls) ++ lines_text zs) ++ printed line.End) f ∙
-        ap (λ (ls : List ReportLine). ((lines_text xs' ++ lines_text ys') ++ lines_text ls) ++ printed line.End) g)
-
-    whole : (xs ys zs : List ReportLine) → ((lines_text xs ++ lines_text ys) ++ lines_text zs) ++ printed line.End ≡ lines_text (((xs ++ ys) ++ zs) ++ line.End ∷ [])
-    whole xs ys zs =
-        ap (λ (t : List ℕ). (t ++ lines_text zs) ++ printed line.End) (sym (text_more xs ys)) ∙ (ap (λ (t : List ℕ). t ++ printed line.End) (sym (text_more (xs ++ ys) zs)) ∙
-        (ap (λ (t : List ℕ). lines_text ((xs ++ ys) ++ zs) ++ t) (sym (append-nil (printed line.End))) ∙ sym (text_more ((xs ++ ys) ++ zs) (line.End ∷ []))))
+        ap (λ (ls : List ReportLine). ((ls ++ ys) ++ zs) ++ line.End ∷ []) e ∙
+        (ap (λ (ls : List ReportLine). ((xs' ++ ls) ++ zs) ++ line.End ∷ []) f ∙
+        ap (λ (ls : List ReportLine). ((xs' ++ ys') ++ ls) ++ line.End ∷ []) g)
 
 -- Four parts are appended to nothing.
-pub four_parts : (t0 t1 t2 t3 t4 xs ys zs ws end : List ℕ) → t0 ≡ [] → t1 ≡ t0 ++ xs → xs ≡ ws → t2 ≡ t1 ++ ys → t3 ≡ t2 ++ zs → t4 ≡ t3 ++ end → t4 ≡ ((ws ++ ys) ++ zs) ++ end
+pub four_parts : (t0 t1 t2 t3 t4 xs ys zs ws end : List ReportLine) → t0 ≡ [] → t1 ≡ t0 ++ xs → xs ≡ ws → t2 ≡ t1 ++ ys → t3 ≡ t2 ++ zs → t4 ≡ t3 ++ end → t4 ≡ ((ws ++ ys) ++ zs) ++ end
 four_parts t0 t1 t2 t3 t4 xs ys zs ws end none one same two three four =
-    four ∙ ap (λ (t : List ℕ). t ++ end) (three ∙ ap (λ (t : List ℕ). t ++ zs) (two ∙ ap (λ (t : List ℕ). t ++ ys) (one ∙ (ap (λ (t : List ℕ). t ++ xs) none ∙ same))))
+    four ∙ ap (λ (t : List ReportLine). t ++ end) (three ∙ ap (λ (t : List ReportLine). t ++ zs) (two ∙ ap (λ (t : List ReportLine). t ++ ys) (one ∙ (ap (λ (t : List ReportLine). t ++ xs) none ∙ same))))
 
-pub same_lines : (running : List Bool) (blocks bs : List BlockId) (all rs : List (Vec Row)) (count : ℕ) → bs ≡ blocks → rs ≡ all → lines_text (all_lines running bs rs count) ≡ lines_text (all_lines running blocks all count)
+pub same_lines : (running : List Bool) (blocks bs : List BlockId) (all rs : List (Vec Row)) (count : ℕ) → bs ≡ blocks → rs ≡ all → all_lines running bs rs count ≡ all_lines running blocks all count
 same_lines running blocks bs all rs count e f =
-    ap (λ (b : List BlockId). lines_text (all_lines running b rs count)) e ∙ ap (λ (r : List (Vec Row)). lines_text (all_lines running blocks r count)) f
+    ap (λ (b : List BlockId). all_lines running b rs count) e ∙ ap (λ (r : List (Vec Row)). all_lines running blocks r count) f

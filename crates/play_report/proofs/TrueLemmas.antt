@@ -20,12 +20,11 @@ use Rattle.script_lang.specs.declared.instructions.ScriptLine.{ScriptLine}
 use Rattle.script_lang.specs.declared.report.ReportLine.{ReportLine}
 use Rattle.script_lang.specs.declared.report.ReportLine.TheVariants as line
 use Rattle.world.specs.Worlds.{World}
-use Rattle.play_report.specs.Answers.{lines_text}
 use Rattle.play_report.specs.Laws.{AreObservable}
 use Rattle.play_report.specs.Recoveries.{asked_lines}
 use Rattle.play_report.specs.Replicas.{SumTable, sums_in, sum_told, info_lines, replica_lines, replicas_lines, node_lines, nodes_lines}
-use Rattle.play_report.specs.Reports.{all_answers, report_text, NodesAre, AreSums, IsReport}
-use Rattle.play_report.proofs.TextLemmas.{upto_same}
+use Rattle.play_report.specs.Reports.{all_answers, report_lines, NodesAre, AreSums, IsReport}
+use Rattle.play_report.proofs.AppendLemmas.{upto_same}
 
 -- a sum is told only of a replica that is neither absent nor broken
 told_same : (node b : ℕ) (r : FullReplica) (s t : ℕ) → (IsWhole r → s ≡ t) → replica_lines node b r s ≡ replica_lines node b r t
@@ -68,9 +67,9 @@ module _ {F I O : Type 0} (f : files.Ghosts F) (i : link_in.Ghosts I) (o : link_
       book None e = absurd (none (subst (λ (q : Option (BookState F)). IsSome q) e (are.show.has_books node place b below at)))
       book (Some x) e = if_seen (f.files x.drawer) (sums node b.0 ≡ sum_of kind.Crc32c (w.replicas node b.0).bytes) (seen node place x e) (s node place b x at e below runs whole)
 
-  pub reports_true : (lines : List ScriptLine) (text : List ℕ) → NodesAre i o count running w net n → AreObservable f n → IsReport f w n lines text → text ≡ report_text w (sums_in w) (numbers n.blocks.items) lines
-  reports_true lines text are seen r =
-      r.text_is ∙ ap (λ (xs : List ReportLine). lines_text (((xs ++ all_answers w (numbers n.blocks.items) lines) ++ asked_lines w lines) ++ line.End ∷ [])) nodes
+  pub reports_true : (lines : List ScriptLine) (report : List ReportLine) → NodesAre i o count running w net n → AreObservable f n → IsReport f w n lines report → report ≡ report_lines w (sums_in w) (numbers n.blocks.items) lines
+  reports_true lines report are seen r =
+      r.lines_are ∙ ap (λ (xs : List ReportLine). ((xs ++ all_answers w (numbers n.blocks.items) lines) ++ asked_lines w lines) ++ line.End ∷ []) nodes
     where
       replicas : (node : ℕ) → node < w.nodes → w.running node ≡ true → replicas_lines w r.sums (numbers n.blocks.items) node ≡ replicas_lines w (sums_in w) (numbers n.blocks.items) node
       replicas node below runs =

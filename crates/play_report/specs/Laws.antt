@@ -11,9 +11,10 @@ use Rattle.play_scripts.specs.Blocks.{numbers}
 use Rattle.replica_files.specs.declared.book_state.BookState.{BookState}
 use Rattle.road_traffic.specs.Showing.{Net}
 use Rattle.script_lang.specs.declared.instructions.ScriptLine.{ScriptLine}
+use Rattle.script_lang.specs.declared.report.ReportLine.{ReportLine}
 use Rattle.world.specs.Worlds.{World}
 use Rattle.play_report.specs.Replicas.{sums_in}
-use Rattle.play_report.specs.Reports.{report_text, NodesAre, IsReport}
+use Rattle.play_report.specs.Reports.{report_lines, NodesAre, IsReport}
 use Rattle.play_report.specs.Rows.{LeavesAll}
 
 -- Nodes that show a world show it afterwards.
@@ -37,5 +38,5 @@ AreObservable {F} f n =
 abbrev pub ReportsAreTrue : (F I O : Type 0) → files.Ghosts F → link_in.Ghosts I → link_out.Ghosts O → Type 0
 ReportsAreTrue F I O f i o =
     (count : ℕ) (running : List Bool) (w : World) (net : Net) (n : Nodes F I O) (lines : List ScriptLine)
-    (text : List ℕ) → NodesAre i o count running w net n → AreObservable f n → IsReport f w n lines text
-    → text ≡ report_text w (sums_in w) (numbers n.blocks.items) lines
+    (report : List ReportLine) → NodesAre i o count running w net n → AreObservable f n → IsReport f w n lines report
+    → report ≡ report_lines w (sums_in w) (numbers n.blocks.items) lines

@@ -25,7 +25,7 @@ use Rattle.script_lang.specs.declared.instructions.ScriptLine.{ScriptLine}
 use Rattle.script_lang.specs.declared.report.ReportLine.{ReportLine}
 use Rattle.script_lang.specs.declared.report.ReportLine.TheVariants as line
 use Rattle.world.specs.Worlds.{World}
-use Rattle.play_report.specs.Answers.{lines_text, answer_lines, said_in}
+use Rattle.play_report.specs.Answers.{answer_lines, said_in}
 use Rattle.play_report.specs.Recoveries.{asked_lines}
 use Rattle.play_report.specs.Replicas.{SumTable, nodes_lines}
 
@@ -40,10 +40,6 @@ all_answers w blocks lines = flat_map (λ b. answer_lines b (w.said b) 0 lines) 
 abbrev pub report_lines : World → SumTable → List ℕ → List ScriptLine → List ReportLine
 report_lines w sums blocks lines =
     ((nodes_lines w sums blocks ++ all_answers w blocks lines) ++ asked_lines w lines) ++ line.End ∷ []
-
--- its text
-abbrev pub report_text : World → SumTable → List ℕ → List ScriptLine → List ℕ
-report_text w sums blocks lines = lines_text (report_lines w sums blocks lines)
 
 -- WHAT IS SHOWN
 
@@ -79,18 +75,18 @@ AreSums {F} f w n sums = (node place : ℕ) (block : BlockId) (book : BookState 
     node < w.nodes → w.running node ≡ true → IsWhole (w.replicas node block.0)
     → IfSome (f.files book.drawer) (λ _. sums node block.0 ≡ sum_of kind.Crc32c (w.replicas node block.0).bytes)
 
--- The text is the report of the world, with the sums of the replicas' bytes.
+-- These lines are the report of the world, with the sums of the replicas' bytes.
 pub record IsReport {F I O : Type 0} (f : files.Ghosts F) (w : World) (n : Nodes F I O) (lines : List ScriptLine)
-    (text : List ℕ) : Type 0 where
+    (report : List ReportLine) : Type 0 where
   pub sums : SumTable
   pub are : AreSums f w n sums
-  pub text_is : text ≡ report_text w sums (numbers n.blocks.items) lines
+  pub lines_are : report ≡ report_lines w sums (numbers n.blocks.items) lines
 
 -- So it is of each world that nodes and clients show.
 abbrev pub Reports : {F I O : Type 0} → files.Ghosts F → link_in.Ghosts I → link_out.Ghosts O → ℕ → List Bool →
-    Nodes F I O → List (Client I O) → List (ReadClient I O) → List (PrimaryClient I O) → List ScriptLine → List ℕ →
-    Type 0
-Reports f i o count running n clients reads recoveries lines text =
+    Nodes F I O → List (Client I O) → List (ReadClient I O) → List (PrimaryClient I O) → List ScriptLine →
+    List ReportLine → Type 0
+Reports f i o count running n clients reads recoveries lines report =
     (w : World) (net : Net) → NodesAre i o count running w net n → ClientsAre w n clients →
     ReadersAre i o w net reads lines → PrimariesAre i o w net recoveries lines
-    → IsReport f w n lines text
+    → IsReport f w n lines report

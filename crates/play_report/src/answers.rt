@@ -4,12 +4,13 @@ ghost use Rattle.std.specs.Prelude.{◌≡◌, ◌++◌, ◌<◌, ◌^◌, ℕ, 
 ghost use Rattle.std.specs.HashMap.{get};
 ghost use Rattle.std.specs.Option.{option_copied};
 ghost use Rattle.play_report.specs.Answers.{told, answer_at, said_in, is_given, answer_line, answer_lines, client_lines};
-ghost use Rattle.play_report.specs.Answers.{lines_text, line_answers, next_ordinal};
+ghost use Rattle.play_report.specs.Answers.{line_answers, next_ordinal};
 
+use crate::appending::append;
 use crate::results::answer_of;
 use hd_base::{BlockId, LinkIn, LinkOut};
 use play_clients::{Client, Said};
-use script_lang::{Answer, Instruction, ReportLine, ScriptLine, print_line};
+use script_lang::{Answer, Instruction, ReportLine, ScriptLine};
 use std::alloc::{AllocError, Global};
 use std::collections::HashMap;
 use writer_core::ClientAnswer;
@@ -58,9 +59,9 @@ fn push_answer(
     block: BlockId,
     ordinal: u64,
     answer: Option<Answer>,
-    out: &mut Vec<u8>,
+    out: &mut Vec<ReportLine>,
 ) -> Result<(), AllocError>
-    ensures { OnOk result (out.new.items ≡ out.old.items ++ lines_text (answer_line block.0 ordinal answer)) }
+    ensures { OnOk result (out.new.items ≡ out.old.items ++ answer_line block.0 ordinal answer) }
 {
     match answer {
         Some(answer) => {
@@ -69,7 +70,7 @@ fn push_answer(
                 ordinal,
                 answer,
             };
-            print_line(&line, out)
+            append(out, line)
         }
         None => Ok(()),
     }
@@ -93,12 +94,12 @@ fn push_line(
     ordinal: u64,
     line: &ScriptLine,
     told: Option<&ClientAnswer>,
-    out: &mut Vec<u8>,
+    out: &mut Vec<ReportLine>,
 ) -> Result<u64, AllocError>
     requires { ordinal < 2 ^ 63 }
     ensures next { IfOk result (λ next. next ≡ next_ordinal block.0 ordinal line.now) }
     ensures lines { OnOk result (out.new.items ≡
-        out.old.items ++ lines_text (line_answers block.0 ordinal line.now (option_copied told.entry))) }
+        out.old.items ++ line_answers block.0 ordinal line.now (option_copied told.entry)) }
 {
     if !is_given(block, &line.instruction) {
         return Ok(ordinal);
@@ -112,10 +113,10 @@ fn push_answers(
     block: BlockId,
     said: &[Said],
     lines: &[ScriptLine],
-    out: &mut Vec<u8>,
+    out: &mut Vec<ReportLine>,
 ) -> Result<(), AllocError>
     ensures { OnOk result (out.new.items ≡
-        out.old.items ++ lines_text (answer_lines block.0 (said_in said.now) 0 lines.now)) }
+        out.old.items ++ answer_lines block.0 (said_in said.now) 0 lines.now) }
 {
     let places = places_of(*out.allocator(), said)?;
     let mut ordinal = 0;
@@ -129,10 +130,10 @@ fn push_answers(
 pub(crate) fn push_clients<I: LinkIn, O: LinkOut>(
     clients: &[Client<I, O>],
     lines: &[ScriptLine],
-    out: &mut Vec<u8>,
+    out: &mut Vec<ReportLine>,
 ) -> Result<(), AllocError>
     ensures { OnOk result (out.new.items ≡
-        out.old.items ++ lines_text (flat_map (λ c. client_lines lines.now c) clients.now)) }
+        out.old.items ++ flat_map (λ c. client_lines lines.now c) clients.now) }
 {
     for client in clients {
         push_answers(client.block, &client.said, lines, out)?;

@@ -3,6 +3,7 @@
 #![tactic(auto)]
 
 mod answers;
+mod appending;
 mod expecting;
 mod faults;
 mod laws;
@@ -21,6 +22,6 @@ pub use play_primaries::nets_carry;
 pub use play_scripts::{
     Head, Nodes, OpenFault, blocks_of, close_nodes, first_unplayed, fitting_books_are_of_blocks,
     head_of, only_nodes_run, opened_nodes_stand, played_lines_are_told, plays_ask_by_number,
-    plays_recover_by_number, scripts_fit, shown_nodes_fit, standing_nodes_close,
+    plays_recover_by_number, scripts_fit, shown_nodes_fit, standing_nodes_close, storms_fit,
 };
-pub use report::write_report;
+pub use report::{report_lines, report_text};

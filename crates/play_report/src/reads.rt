@@ -1,15 +1,15 @@
 //! What was read, in a report.
 
-ghost use Rattle.std.specs.Prelude.{◌≡◌, ◌++◌, IfOk, OnOk};
+ghost use Rattle.std.specs.Prelude.{◌≡◌, ◌++◌, [], ◌∷◌, IfOk, OnOk};
 ghost use Rattle.play_primaries.specs.ReaderEvents.Hearing.{bytes_read};
-ghost use Rattle.script_lang.specs.Reports.{printed};
 ghost use Rattle.play_report.specs.Reads.{fault_told, result_told, state_told, client_read};
 
+use crate::appending::append;
 use chunk_sums::crc;
 use hd_base::{LinkIn, LinkOut, SumKind};
 use play_primaries::{ReadClient, ReadState};
 use read_core::ReadFault;
-use script_lang::{ReadResult, ReportLine, print_line};
+use script_lang::{ReadResult, ReportLine};
 use std::alloc::AllocError;
 
 /// Why a read failed. The node's message is copied.
@@ -56,14 +56,14 @@ fn state_told<I: LinkIn, O: LinkOut>(state: &ReadState<I, O>) -> Result<ReadResu
 /// Appends the line of a client.
 pub(crate) fn push_read<I: LinkIn, O: LinkOut>(
     client: &ReadClient<I, O>,
-    out: &mut Vec<u8>,
+    out: &mut Vec<ReportLine>,
 ) -> Result<(), AllocError>
-    ensures { OnOk result (out.new.items ≡ out.old.items ++ printed (client_read client.now)) }
+    ensures { OnOk result (out.new.items ≡ out.old.items ++ client_read client.now ∷ []) }
 {
     let result = state_told(&client.state)?;
     let line = ReportLine::Read {
         line: client.ask.reader,
         result,
     };
-    print_line(&line, out)
+    append(out, line)
 }

@@ -1,8 +1,6 @@
 //! What lines that read or recover came to, in a report, in the order of the lines.
 
-ghost use Rattle.std.specs.Prelude.{◌≡◌, ◌++◌, map, true, IfOk, OnOk};
-ghost use Rattle.script_lang.specs.Reports.{printed};
-ghost use Rattle.play_report.specs.Answers.{lines_text};
+ghost use Rattle.std.specs.Prelude.{◌≡◌, ◌++◌, [], ◌∷◌, map, true, IfOk, OnOk};
 ghost use Rattle.play_report.specs.Reads.{client_read};
 ghost use Rattle.play_scripts.specs.Reads.{is_read};
 ghost use Rattle.play_report.specs.Recoveries.{
@@ -16,12 +14,13 @@ ghost use Rattle.play_report.specs.Recoveries.{
   merged,
 };
 
+use crate::appending::append;
 use crate::reads::push_read;
 use crate::results::office_refusal;
 use hd_base::{LinkIn, LinkOut};
 use play_primaries::{PrimaryClient, PrimaryState, ReadClient};
 use recovery_core::Recovered;
-use script_lang::{Instruction, OfficeRefusal, RecoveryResult, ReportLine, ScriptLine, print_line};
+use script_lang::{Instruction, OfficeRefusal, RecoveryResult, ReportLine, ScriptLine};
 use std::alloc::AllocError;
 
 /// What a recovery came to.
@@ -62,24 +61,24 @@ fn led_told<I: LinkIn, O: LinkOut>(state: &PrimaryState<I, O>) -> RecoveryResult
 /// Appends the line of a client.
 fn push_recovery<I: LinkIn, O: LinkOut>(
     client: &PrimaryClient<I, O>,
-    out: &mut Vec<u8>,
+    out: &mut Vec<ReportLine>,
 ) -> Result<(), AllocError>
-    ensures { OnOk result (out.new.items ≡ out.old.items ++ printed (client_recovery client.now)) }
+    ensures { OnOk result (out.new.items ≡ out.old.items ++ client_recovery client.now ∷ []) }
 {
     let line = ReportLine::Recovery {
         line: client.recovery.primary,
         result: led_told(&client.state),
     };
-    print_line(&line, out)
+    append(out, line)
 }
 
 /// Appends the line of the first client that reads, if there is one. Answers those behind it.
 fn push_next_read<'a, I: LinkIn, O: LinkOut>(
     clients: &'a [ReadClient<I, O>],
-    out: &mut Vec<u8>,
+    out: &mut Vec<ReportLine>,
 ) -> Result<&'a [ReadClient<I, O>], AllocError>
     ensures lines { OnOk result (out.new.items ≡
-        out.old.items ++ lines_text (first_if true (map client_read clients.now))) }
+        out.old.items ++ first_if true (map client_read clients.now)) }
     ensures rest { IfOk result (λ rest. rest.now ≡ rest_if true clients.now) }
 {
     let Some((client, rest)) = clients.split_first() else {
@@ -92,10 +91,10 @@ fn push_next_read<'a, I: LinkIn, O: LinkOut>(
 /// Appends the line of the first client that recovers, if there is one. Answers those behind it.
 fn push_next_recovery<'a, I: LinkIn, O: LinkOut>(
     clients: &'a [PrimaryClient<I, O>],
-    out: &mut Vec<u8>,
+    out: &mut Vec<ReportLine>,
 ) -> Result<&'a [PrimaryClient<I, O>], AllocError>
     ensures lines { OnOk result (out.new.items ≡
-        out.old.items ++ lines_text (first_if true (map client_recovery clients.now))) }
+        out.old.items ++ first_if true (map client_recovery clients.now)) }
     ensures rest { IfOk result (λ rest. rest.now ≡ rest_if true clients.now) }
 {
     let Some((client, rest)) = clients.split_first() else {
@@ -111,10 +110,10 @@ fn push_next<'a, 'b, I: LinkIn, O: LinkOut>(
     reads: &'a [ReadClient<I, O>],
     recoveries: &'b [PrimaryClient<I, O>],
     line: &ScriptLine,
-    out: &mut Vec<u8>,
+    out: &mut Vec<ReportLine>,
 ) -> Result<(&'a [ReadClient<I, O>], &'b [PrimaryClient<I, O>]), AllocError>
     ensures lines { OnOk result (out.new.items ≡ out.old.items ++
-        lines_text (next_lines (map client_read reads.now) (map client_recovery recoveries.now) line.now)) }
+        next_lines (map client_read reads.now) (map client_recovery recoveries.now) line.now) }
     ensures reads { IfOk result (λ rest. rest.0.now ≡ rest_if (is_read line.now.instruction) reads.now) }
     ensures recoveries { IfOk result (λ rest. rest.1.now ≡ rest_if (recovers line.now) recoveries.now) }
 {
@@ -136,10 +135,10 @@ pub(crate) fn push_asked<I: LinkIn, O: LinkOut>(
     reads: &[ReadClient<I, O>],
     recoveries: &[PrimaryClient<I, O>],
     lines: &[ScriptLine],
-    out: &mut Vec<u8>,
+    out: &mut Vec<ReportLine>,
 ) -> Result<(), AllocError>
     ensures { OnOk result (out.new.items ≡ out.old.items ++
-        lines_text (merged (map client_read reads.now) (map client_recovery recoveries.now) lines.now)) }
+        merged (map client_read reads.now) (map client_recovery recoveries.now) lines.now) }
 {
     let mut reads = reads;
     let mut recoveries = recoveries;

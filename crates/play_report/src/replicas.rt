@@ -2,19 +2,24 @@
 
 ghost use Rattle.std.specs.Prelude.{◌≡◌, ◌++◌, slice_get, OnOk};
 ghost use Rattle.std.specs.Option.{option_copied};
-ghost use Rattle.play_report.specs.Answers.{lines_text};
 ghost use Rattle.play_report.specs.Replicas.{info_lines, row_lines, rows_lines, all_lines};
 
+use crate::appending::append;
 use crate::rows::Row;
 use crate::running::runs_in;
 use hd_base::{BlockId, NodeId};
-use script_lang::{ReportLine, print_line};
+use script_lang::ReportLine;
 use std::alloc::AllocError;
 
 /// Appends the line of a replica that isn't absent.
-fn push_row(node: NodeId, block: BlockId, row: Row, out: &mut Vec<u8>) -> Result<(), AllocError>
+fn push_row(
+    node: NodeId,
+    block: BlockId,
+    row: Row,
+    out: &mut Vec<ReportLine>,
+) -> Result<(), AllocError>
     ensures { OnOk result (out.new.items ≡
-        out.old.items ++ lines_text (info_lines node.0 block.0 row.sum row.info)) }
+        out.old.items ++ info_lines node.0 block.0 row.sum row.info) }
 {
     let Row { info, sum } = row;
     match info {
@@ -28,7 +33,7 @@ fn push_row(node: NodeId, block: BlockId, row: Row, out: &mut Vec<u8>) -> Result
                 acked: info.acked,
                 sum,
             };
-            print_line(&line, out)
+            append(out, line)
         }
         None => Ok(()),
     }
@@ -39,9 +44,9 @@ fn push_rows(
     node: NodeId,
     blocks: &[BlockId],
     rows: &[Row],
-    out: &mut Vec<u8>,
+    out: &mut Vec<ReportLine>,
 ) -> Result<(), AllocError>
-    ensures { OnOk result (out.new.items ≡ out.old.items ++ lines_text (row_lines node.0 blocks.now rows.now)) }
+    ensures { OnOk result (out.new.items ≡ out.old.items ++ row_lines node.0 blocks.now rows.now) }
 {
     let count = blocks.len().min(rows.len());
     for place in 0..count {
@@ -57,13 +62,13 @@ fn push_node(
     runs: bool,
     blocks: &[BlockId],
     rows: Option<&Vec<Row>>,
-    out: &mut Vec<u8>,
+    out: &mut Vec<ReportLine>,
 ) -> Result<(), AllocError>
     ensures { OnOk result (out.new.items ≡
-        out.old.items ++ lines_text (rows_lines node.0 runs blocks.now (option_copied rows.entry))) }
+        out.old.items ++ rows_lines node.0 runs blocks.now (option_copied rows.entry)) }
 {
     if !runs {
-        return print_line(&ReportLine::Down { node }, out);
+        return append(out, ReportLine::Down { node });
     }
     match rows {
         Some(rows) => push_rows(node, blocks, rows.as_slice(), out),
@@ -77,9 +82,9 @@ pub(crate) fn push_nodes(
     running: &[bool],
     blocks: &[BlockId],
     all: &[Vec<Row>],
-    out: &mut Vec<u8>,
+    out: &mut Vec<ReportLine>,
 ) -> Result<(), AllocError>
-    ensures { OnOk result (out.new.items ≡ out.old.items ++ lines_text (all_lines running.now blocks.now all.now count)) }
+    ensures { OnOk result (out.new.items ≡ out.old.items ++ all_lines running.now blocks.now all.now count) }
 {
     for node in 0..count {
         let runs = runs_in(running, NodeId(node));

@@ -1,7 +1,7 @@
 -- One line more.
 use Rattle.std.proofs.Common.{◌++◌, refl, ◌∙◌, arith}
 use Rattle.play_scripts.proofs.PlayNodes.PlaceLaws.{element_some}
-use Rattle.play_report.specs.Answers.{lines_text, said_in, answer_lines}
+use Rattle.play_report.specs.Answers.{said_in, answer_lines}
 use Rattle.play_report.proofs.AnswerLemmas.{line_appended, next_within, answers_end, drop_at}
 use Rattle.play_report.proofs.answers.push_answers.Goals as goal
 
@@ -16,7 +16,7 @@ loop-line-preserved c =
     let k = c.loop-line.line-index in
     let l = c.line-item.result in
     let n = c.loop-line.ordinal in
-    let all = c.args.out.now.items ++ lines_text (answer_lines b said 0 lines) in
+    let all = c.args.out.now.items ++ (answer_lines b said 0 lines) in
     let next = c.in_ok-ordinal.ensures.next in
     record {
       few = next_within b n _ k l next c.loop-line.invariant.few;
@@ -27,5 +27,5 @@ loop-line-preserved c =
 pub returns : goal.returns
 returns c =
     let said = said_in c.args.said.now in
-    let all = c.args.out.now.items ++ lines_text (answer_lines c.args.block.0 said 0 c.args.lines.now) in
+    let all = c.args.out.now.items ++ (answer_lines c.args.block.0 said 0 c.args.lines.now) in
     answers_end all c.loop-line.out.items c.args.block.0 said c.loop-line.ordinal c.args.lines.now c.loop-line.line-index c.loop-line-test.false c.loop-line.invariant.rest

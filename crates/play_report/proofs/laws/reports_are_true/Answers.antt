@@ -3,4 +3,4 @@ use Rattle.play_report.proofs.TrueLemmas.{reports_true}
 use Rattle.play_report.proofs.laws.reports_are_true.Goals as goal
 
 pub returns : goal.returns
-returns g c = λ count running w net n lines text are seen r. reports_true g.F.Files g.I.LinkIn g.O.LinkOut count running w net n lines text are seen r
+returns g c = λ count running w net n lines report are seen r. reports_true g.F.Files g.I.LinkIn g.O.LinkOut count running w net n lines report are seen r
