@@ -23,7 +23,7 @@ use Rattle.completing_lines.specs.PlayLines.Playing.{Playing}
 use Rattle.completing_lines.specs.PlayLines.Drawing.{HasFailed}
 use Rattle.play_report.specs.Expecting.{differing}
 use Rattle.play_report.specs.Replicas.{sums_in}
-use Rattle.play_report.specs.Reports.{report_text, NodesAre, ClientsAre, ReadersAre, PrimariesAre}
+use Rattle.play_report.specs.Reports.{report_lines, NodesAre, ClientsAre, ReadersAre, PrimariesAre}
 use Rattle.whole_play.specs.declared.faults.RunFault.{RunFault}
 use Rattle.whole_play.specs.declared.faults.RunFault.TheVariants as fault
 use Rattle.whole_play.specs.declared.playing.Played.{Played}
@@ -49,7 +49,7 @@ AllTell {D} d = (x : D) → IsSome (d.files x)
 -- The report is the world's, and so is the first difference from what is expected.
 pub record IsTold {D : Type 0} (d : files.Ghosts D) (w : World) (blocks : List ℕ) (script : List ScriptLine) (p : Played) :
     Type 0 where
-  pub report : AllTell d → p.report.items ≡ report_text w (sums_in w) blocks script
+  pub report : AllTell d → p.report.items ≡ report_lines w (sums_in w) blocks script
   pub difference : p.difference ≡ differing w blocks script
 
 -- So it is of each world that the nodes, the clients, the readers and the primaries of the play show.

@@ -23,10 +23,10 @@ use play_model::replicas_have_their_bytes;
 use play_report::{
     Difference, Head, Nodes, close_nodes, first_difference, fitting_books_are_of_blocks, head_of,
     nets_carry, only_nodes_run, opened_nodes_stand, plays_ask_by_number, plays_recover_by_number,
-    reports_are_true, reports_keep_nodes, shown_nodes_fit, standing_nodes_close, write_report,
+    report_lines, reports_are_true, reports_keep_nodes, shown_nodes_fit, standing_nodes_close,
 };
 use refusing_files::Refusing;
-use script_lang::ScriptLine;
+use script_lang::{ReportLine, ScriptLine};
 use std::alloc::Global;
 use told_shelves::ToldShelf;
 
@@ -36,8 +36,8 @@ const HEAD_LINES: usize = 2;
 /// What is told of a script that was played.
 #[derive(Debug, Drop)]
 pub struct Played {
-    /// The report.
-    pub report: Vec<u8>,
+    /// The lines of the report.
+    pub report: Vec<ReportLine>,
     /// The first line that expects another replica than there is.
     pub difference: Option<Difference>,
 }
@@ -149,7 +149,7 @@ fn report_of<F: Files, I: LinkIn, O: LinkOut>(
     reports_are_true::<F, I, O>();
     let count = playing.nodes;
     let player = &mut playing.player;
-    let report = write_report(
+    let report = report_lines(
         alloc,
         count,
         &player.running,

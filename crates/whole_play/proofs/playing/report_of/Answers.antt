@@ -17,7 +17,7 @@ use Rattle.whole_play.proofs.playing.report_of.Goals as goal
 pub returns-in_err-report-clause-cause : goal.returns-in_err-report-clause-cause
 returns-in_err-report-clause-cause g c =
     let old = c.args.playing.now in
-    let new = record old { player = record old.player { nodes = c.write_report.new.nodes } } in
+    let new = record old { player = record old.player { nodes = c.report_lines.new.nodes } } in
     let e = err_from_is_err_and c.from_residual.result c.from_residual.ensures.1 in
     if_err c.from_residual.result e.0 (IsReportFault g.F.Files new) e.1 (subst (λ (why : RunFault). IsReportFault g.F.Files new why) (sym e.2) (report_fault g.F.Files old new c.in_err-report.field-0.0 c.in_err-report.ensures.cause))
 
@@ -26,7 +26,7 @@ returns-clause-told g c = λ w net are clients readers primaries.
     let count = c.args.playing.now.nodes in
     let runs = c.args.playing.now.player.running.items in
     let old = c.args.playing.now.player.nodes in
-    let new = c.write_report.new.nodes in
+    let new = c.report_lines.new.nodes in
     let kept = c.in_ok-report.ensures.kept in
     let still : NodesAre g.I.LinkIn g.O.LinkOut count runs w net new = record { show = c.reports_keep_nodes.ensures.show w net old new kept are.show; count_is = are.count_is; tells = are.tells } in
     record {
