@@ -1,2 +1,4 @@
 mod AnswerLaws
+mod CallLaws
 mod RunLaws
+mod StormLaws

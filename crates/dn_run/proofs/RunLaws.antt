@@ -23,24 +23,14 @@ use Rattle.whole_play.specs.Playing.{LeavesShelves, HasCause, HasUsedCause}
 use Rattle.dn_run.specs.declared.exits.Exit.{Exit}
 use Rattle.dn_run.specs.declared.exits.Exit.TheVariants as exit
 use Rattle.dn_run.specs.Exits.{is_told, run_exit}
+use Rattle.dn_run.specs.Tasks.{UsageFor}
+use Rattle.dn_run.specs.declared.tasks.Task.{Task}
 use Rattle.dn_run.specs.Reading.{IsPlayable, HasRead, IsReadExit, Accepts, Refuses}
-use Rattle.dn_run.specs.Runs.{IsBadText, OfUsed, NoneRose, CanRun, IsPlainExit, IsUntouched, LeavesOthers, KeepsShelves, UsageFor, ReadsWords, IsBadIn, RefusesIn, HasPlayCause, HasExitCause, HasRun, IsOver, WritesReport}
+use Rattle.dn_run.specs.Runs.{IsBadText, OfUsed, NoneRose, CanRun, IsPlainExit, IsUntouched, LeavesOthers, KeepsShelves, IsBadIn, RefusesIn, HasPlayCause, HasExitCause, HasRun, IsOver, WritesReport}
 
 -- WRITING
 
 module _ {O : Type 0} (o : sinks.Ghosts O) (report report' : O) (p : Played) where
-  pub written_usage : (ended : Exit) → WritesReport o report report' p ended → UsageFor None ended
-  written_usage exit.Done w = λ r e. cc
-  written_usage (exit.Differs line want got) w = λ r e. cc
-  written_usage exit.ReportFault w = λ r e. cc
-  written_usage exit.Memory w = λ r e. cc
-  written_usage (exit.Usage r) w = absurd w
-  written_usage (exit.BadScript line why) w = absurd w
-  written_usage exit.ScriptFault w = absurd w
-  written_usage (exit.ShelfFault node) w = absurd w
-  written_usage exit.RoadFault w = absurd w
-  written_usage (exit.NotEmpty node name) w = absurd w
-
   pub written_bad : (tells : Bool) (left : Option (List ℕ)) (n : ℕ) (ended : Exit) → WritesReport o report report' p ended → IsBadIn tells left n ended
   written_bad tells left n exit.Done w = tt
   written_bad tells left n (exit.Differs line want got) w = tt
@@ -87,7 +77,7 @@ module _ {I O S D R L M : Type 0} (i : sources.Ghosts I) (o : sinks.Ghosts O) (s
   played_cause tells (exit.Differs line want got) c = tt
   played_cause tells exit.ReportFault c = absurd c
   played_cause tells exit.Memory c = c
-  played_cause tells (exit.Usage u) c = c
+  played_cause tells (exit.Usage u) c = absurd c
   played_cause tells (exit.BadScript line why) c = c
   played_cause tells exit.ScriptFault c = c
   played_cause tells (exit.ShelfFault node) c = c
@@ -99,7 +89,7 @@ module _ {I O S D R L M : Type 0} (i : sources.Ghosts I) (o : sinks.Ghosts O) (s
   played_over tells (exit.Differs line want got) c = absurd c
   played_over tells exit.ReportFault c = absurd c
   played_over tells exit.Memory c = refl
-  played_over tells (exit.Usage u) c = refl
+  played_over tells (exit.Usage u) c = absurd c
   played_over tells (exit.BadScript line why) c = refl
   played_over tells exit.ScriptFault c = refl
   played_over tells (exit.ShelfFault node) c = refl
@@ -152,43 +142,12 @@ module _ {I S D R L M : Type 0} (i : sources.Ghosts I) (s : shelves.Ghosts S D) 
   read_cause tells left shelves (exit.Differs line want got) c = c
   read_cause tells left shelves exit.ReportFault c = c
   read_cause tells left shelves exit.Memory c = tt
-  read_cause tells left shelves (exit.Usage u) c = tt
+  read_cause tells left shelves (exit.Usage u) c = absurd c
   read_cause tells left shelves (exit.BadScript line why) c = tt
   read_cause tells left shelves exit.ScriptFault c = c
   read_cause tells left shelves (exit.ShelfFault node) c = absurd c
   read_cause tells left shelves exit.RoadFault c = absurd c
   read_cause tells left shelves (exit.NotEmpty node name) c = absurd c
-
-  pub mode_cause : (tells : Bool) (usage : Option UsageRule) (ended : Exit) → ReadsWords usage (Err ended) → HasPlayCause tells i s r script script' old new road road' ended
-  mode_cause tells None ended e = subst (λ (y : Exit). HasPlayCause tells i s r script script' old new road road' y) (sym e) tt
-  mode_cause tells (Some x) ended (inl e) = subst (λ (y : Exit). HasPlayCause tells i s r script script' old new road road' y) (sym e) tt
-  mode_cause tells (Some x) ended (inr e) = subst (λ (y : Exit). HasPlayCause tells i s r script script' old new road road' y) (sym e) tt
-
--- USAGE
-
--- What was played had words that break no rule.
-pub ok_usage : (u : Option UsageRule) (ended : Exit) → u ≡ None → UsageFor None ended → UsageFor u ended
-ok_usage u ended e w = subst (λ (x : Option UsageRule). UsageFor x ended) (sym e) w
-
-pub mode_usage : (u : Option UsageRule) (ended : Exit) → ReadsWords u (Err ended) → UsageFor u ended
-mode_usage None ended e = λ r used. never r (sym used ∙ e)
-  where
-    never : (r : UsageRule) → exit.Usage r ≡ exit.Memory → ⊥
-    never r e = cc
-mode_usage (Some r) ended h = h
-
-pub none_broken : (u : Option UsageRule) → ReadsWords u (Ok tt) → u ≡ None
-none_broken None h = refl
-none_broken (Some r) h = absurd h
-
-pub fault_usage : (u : Option UsageRule) (why : RunFault) → u ≡ None → UsageFor u (run_exit why)
-fault_usage u why e = ok_usage u (run_exit why) e (by why)
-  where
-    by : (why : RunFault) → UsageFor None (run_exit why)
-    by fault.RoadFault = λ r e. cc
-    by (fault.ShelfFault node) = λ r e. cc
-    by (fault.NotEmpty node name) = λ r e. cc
-    by fault.Memory = λ r e. cc
 
 -- A text whose lines were read isn't refused.
 pub refuses_any : (tells : Bool) (left : Option (List ℕ)) (n : ℕ) (lines : List ScriptLine) (result : Result Played Exit) → IfSome left (λ text. Refuses {T = List ScriptLine} tells n text (Ok lines)) → IfSome left (λ text. Refuses {T = Played} tells n text result)
@@ -196,34 +155,24 @@ refuses_any tells None n lines result h = tt
 refuses_any tells (Some text) n lines (Ok p) h = h
 refuses_any tells (Some text) n lines (Err ended) h = λ line why bad. absurd (h line why bad)
 
--- So had what was told.
-pub told_usage : (u : Option UsageRule) (ended : Exit) → is_told ended ≡ true → UsageFor u ended → UsageFor u exit.ReportFault
-told_usage None ended t u = λ r e. cc
-told_usage (Some r) ended t (inl e) = absurd (never (ap is_told (sym e) ∙ t))
+-- USAGE
+
+-- What was told had words that break no rule.
+pub told_usage : (asked : Result Task UsageRule) (ended : Exit) → is_told ended ≡ true → UsageFor asked ended → UsageFor asked exit.ReportFault
+told_usage (Ok asked) ended t u = λ r e. cc
+told_usage (Err r) ended t (inl e) = absurd (never (ap is_told (sym e) ∙ t))
   where
     never : false ≡ true → ⊥
     never e = cc
-told_usage (Some r) ended t (inr e) = absurd (never (ap is_told (sym e) ∙ t))
+told_usage (Err r) ended t (inr e) = absurd (never (ap is_told (sym e) ∙ t))
   where
     never : false ≡ true → ⊥
     never e = cc
 
 -- WHAT IS LEFT AS IT WAS
 
-module _ {I S R : Type 0} (script script' : I) (old new : List S) (road road' : R) where
-  pub untouched_words : (ended : Exit) → IsUntouched script script old old road road ended
-  untouched_words exit.Done = tt
-  untouched_words (exit.Differs line want got) = tt
-  untouched_words exit.ReportFault = tt
-  untouched_words exit.Memory = tt
-  untouched_words (exit.Usage u) = (refl, refl, refl)
-  untouched_words (exit.BadScript line why) = (refl, refl)
-  untouched_words exit.ScriptFault = (refl, refl)
-  untouched_words (exit.ShelfFault node) = tt
-  untouched_words exit.RoadFault = tt
-  untouched_words (exit.NotEmpty node name) = tt
-
-  pub untouched_read : (tells : Bool) (left : Option (List ℕ)) (before now shelves : ℕ) (ended : Exit) → IsReadExit tells left before now shelves ended → IsUntouched script script' old old road road ended
+module _ {S R : Type 0} (old new : List S) (road road' : R) where
+  pub untouched_read : (tells : Bool) (left : Option (List ℕ)) (before now shelves : ℕ) (ended : Exit) → IsReadExit tells left before now shelves ended → IsUntouched old old road road ended
   untouched_read tells left before now shelves exit.Done c = tt
   untouched_read tells left before now shelves (exit.Differs line want got) c = tt
   untouched_read tells left before now shelves exit.ReportFault c = tt
@@ -235,24 +184,24 @@ module _ {I S R : Type 0} (script script' : I) (old new : List S) (road road' : 
   untouched_read tells left before now shelves exit.RoadFault c = tt
   untouched_read tells left before now shelves (exit.NotEmpty node name) c = tt
 
-  pub untouched_fault : (why : RunFault) → IsUntouched script script' old new road road' (run_exit why)
+  pub untouched_fault : (why : RunFault) → IsUntouched old new road road' (run_exit why)
   untouched_fault fault.RoadFault = tt
   untouched_fault (fault.ShelfFault node) = tt
   untouched_fault (fault.NotEmpty node name) = tt
   untouched_fault fault.Memory = tt
 
 module _ {O : Type 0} (o : sinks.Ghosts O) (report report' : O) (p : Played) where
-  pub untouched_written : {I S R : Type 0} (script script' : I) (old new : List S) (road road' : R) (ended : Exit) → WritesReport o report report' p ended → IsUntouched script script' old new road road' ended
-  untouched_written script script' old new road road' exit.Done w = tt
-  untouched_written script script' old new road road' (exit.Differs line want got) w = tt
-  untouched_written script script' old new road road' exit.ReportFault w = tt
-  untouched_written script script' old new road road' exit.Memory w = tt
-  untouched_written script script' old new road road' (exit.Usage u) w = absurd w
-  untouched_written script script' old new road road' (exit.BadScript line why) w = absurd w
-  untouched_written script script' old new road road' exit.ScriptFault w = absurd w
-  untouched_written script script' old new road road' (exit.ShelfFault node) w = absurd w
-  untouched_written script script' old new road road' exit.RoadFault w = absurd w
-  untouched_written script script' old new road road' (exit.NotEmpty node name) w = absurd w
+  pub untouched_written : {S R : Type 0} (old new : List S) (road road' : R) (ended : Exit) → WritesReport o report report' p ended → IsUntouched old new road road' ended
+  untouched_written old new road road' exit.Done w = tt
+  untouched_written old new road road' (exit.Differs line want got) w = tt
+  untouched_written old new road road' exit.ReportFault w = tt
+  untouched_written old new road road' exit.Memory w = tt
+  untouched_written old new road road' (exit.Usage u) w = absurd w
+  untouched_written old new road road' (exit.BadScript line why) w = absurd w
+  untouched_written old new road road' exit.ScriptFault w = absurd w
+  untouched_written old new road road' (exit.ShelfFault node) w = absurd w
+  untouched_written old new road road' exit.RoadFault w = absurd w
+  untouched_written old new road road' (exit.NotEmpty node name) w = absurd w
 
 -- SHELVES
 
@@ -325,16 +274,16 @@ module _ {I O S D R L M : Type 0} (i : sources.Ghosts I) (o : sinks.Ghosts O) (s
       none_first name (subst (λ (f : Option FileMap). IfSome f (λ m. IsFirstName m name)) (can.empty node.0 here.before at) here.so)
 
   -- where nothing was played, memory ran out
-  pub plain_unplayed : (ended : Exit) → UsageFor None ended → IsBadIn tells (i.left script) (length old) ended → HasPlayCause tells i s r script script' old new road road' ended → IsPlainExit ended
-  plain_unplayed exit.Done u b c = tt
-  plain_unplayed (exit.Differs line want got) u b c = tt
-  plain_unplayed exit.ReportFault u b c = absurd c
-  plain_unplayed exit.Memory u b c = tt
-  plain_unplayed (exit.Usage x) u b c = absurd (u x refl)
-  plain_unplayed (exit.BadScript line why) u b c =
+  pub plain_unplayed : (ended : Exit) → IsBadIn tells (i.left script) (length old) ended → HasPlayCause tells i s r script script' old new road road' ended → IsPlainExit ended
+  plain_unplayed exit.Done b c = tt
+  plain_unplayed (exit.Differs line want got) b c = tt
+  plain_unplayed exit.ReportFault b c = absurd c
+  plain_unplayed exit.Memory b c = tt
+  plain_unplayed (exit.Usage x) b c = absurd c
+  plain_unplayed (exit.BadScript line why) b c =
       let bad = subst (λ (l : Option (List ℕ)). IfSome l (λ text. IsBadText tells (length old) text line why)) can.told b in
       absurd (bad.unplayable can.lines can.playable)
-  plain_unplayed exit.ScriptFault u b c = absurd (none.source c)
-  plain_unplayed (exit.ShelfFault node) u b c = absurd (none.shelves node (used_shelf _ c.head.nodes node.0 old new c.so))
-  plain_unplayed exit.RoadFault u b c = absurd (none.roads c)
-  plain_unplayed (exit.NotEmpty node name) u b c = absurd (never_files node name c)
+  plain_unplayed exit.ScriptFault b c = absurd (none.source c)
+  plain_unplayed (exit.ShelfFault node) b c = absurd (none.shelves node (used_shelf _ c.head.nodes node.0 old new c.so))
+  plain_unplayed exit.RoadFault b c = absurd (none.roads c)
+  plain_unplayed (exit.NotEmpty node name) b c = absurd (never_files node name c)

@@ -1,5 +1,5 @@
 -- What a run does, and how it ends, over shelves of which it is known whether they tell their files.
-use Rattle.std.specs.Prelude.{◌≡◌, ◌≤◌, ◌⊎◌, ℕ, Bool, List, length, take, slice_get, Option, Some, None, IfSome, Result, Ok, Err}
+use Rattle.std.specs.Prelude.{◌≡◌, ◌≤◌, ℕ, Bool, List, length, take, slice_get, Option, Some, None, IfSome, Result, Ok, Err}
 use Rattle.hd_base.specs.Faults.{FaultsIncreased}
 use Rattle.hd_base.specs.FileMaps.{no_files}
 use Rattle.hd_base.specs.declared.numbers.NodeId.{NodeId}
@@ -15,15 +15,13 @@ use Rattle.whole_play.specs.NodeOpening.Emptiness.{ShelfRose, HasFirstFile}
 use Rattle.whole_play.specs.NodeOpening.Shelves.{EachShelf, LendsNoMore}
 use Rattle.hd_base.specs.RoadFaults.{RoadsFailed}
 use Rattle.whole_play.specs.PlayModel.States.{world_of}
+use Rattle.whole_play.specs.PlayReport.Answers.{lines_text}
 use Rattle.whole_play.specs.PlayReport.Difference.{Difference}
 use Rattle.whole_play.specs.PlayScripts.Head.{Head}
 use Rattle.whole_play.specs.PlayScripts.Heads.{head_of}
 use Rattle.run_words.specs.Calls.{words_of}
-use Rattle.run_words.specs.declared.call.Mode.{Mode}
-use Rattle.run_words.specs.declared.call.Mode.TheVariants as mode
 use Rattle.run_words.specs.declared.call.Words.{Words}
 use Rattle.run_words.specs.declared.faults.UsageRule.{UsageRule}
-use Rattle.run_words.specs.declared.faults.UsageRule.TheVariants as rule
 use Rattle.whole_play.specs.declared.playing.Played.{Played}
 use Rattle.whole_play.specs.Playing.{IsPlayed}
 use Rattle.dn_run.specs.declared.exits.Exit.{Exit}
@@ -37,19 +35,6 @@ use Rattle.whole_streams.specs.Streams.{WroteFront}
 
 -- WORDS
 
--- of the modes only `play` is run so far
-abbrev pub mode_usage : Mode → Option UsageRule
-mode_usage mode.Play = None
-mode_usage other = Some rule.Mode
-
-abbrev pub said_usage : Result Words UsageRule → Option UsageRule
-said_usage (Ok words) = mode_usage words.mode
-said_usage (Err r) = Some r
-
--- the first rule that the words break, if they break one
-abbrev pub usage_of : List (List ℕ) → Option UsageRule
-usage_of words = said_usage (words_of words)
-
 -- the folder that was said
 abbrev pub said_folder : Result Words UsageRule → Option (List ℕ)
 said_folder (Ok words) = words.folder
@@ -58,23 +43,6 @@ said_folder (Err r) = None
 -- the folder that the words name, if they break no rule and name one
 abbrev pub folder_named : List (List ℕ) → Option (List ℕ)
 folder_named words = said_folder (words_of words)
-
--- Usage comes exactly where the words break a rule, but for want of memory.
-abbrev pub UsageFor : Option UsageRule → Exit → Type 0
-UsageFor (Some r) ended = (ended ≡ exit.Usage r) ⊎ (ended ≡ exit.Memory)
-UsageFor None ended = (r : UsageRule) → ended ≡ exit.Usage r → ⊥
-
--- The same of what is read and played.
-abbrev pub UsageIn : {T : Type 0} → Option UsageRule → Result T Exit → Type 0
-UsageIn usage (Ok x) = usage ≡ None
-UsageIn usage (Err ended) = UsageFor usage ended
-
--- The words are `play`, or they break a rule, or memory ran out.
-abbrev pub ReadsWords : Option UsageRule → Result (Unit {0}) Exit → Type 0
-ReadsWords None (Ok u) = Unit {0}
-ReadsWords None (Err ended) = ended ≡ exit.Memory
-ReadsWords (Some r) (Ok u) = ⊥
-ReadsWords (Some r) (Err ended) = (ended ≡ exit.Usage r) ⊎ (ended ≡ exit.Memory)
 
 -- SCRIPTS
 
@@ -95,12 +63,11 @@ RefusesIn tells left shelves ended = IfSome left (λ text. (line : ℕ) (why : B
 
 -- WHAT IS LEFT AS IT WAS
 
--- Words that break a rule leave all as it was, and a script that isn't played all but its source.
-abbrev pub IsUntouched : {I S R : Type 0} → I → I → List S → List S → R → R → Exit → Type 0
-IsUntouched script script' old new road road' (exit.Usage r) = (script' ≡ script) × (new ≡ old) × (road' ≡ road)
-IsUntouched script script' old new road road' (exit.BadScript line why) = (new ≡ old) × (road' ≡ road)
-IsUntouched script script' old new road road' exit.ScriptFault = (new ≡ old) × (road' ≡ road)
-IsUntouched script script' old new road road' other = Unit {0}
+-- A script that isn't played leaves all as it was but its source.
+abbrev pub IsUntouched : {S R : Type 0} → List S → List S → R → R → Exit → Type 0
+IsUntouched old new road road' (exit.BadScript line why) = (new ≡ old) × (road' ≡ road)
+IsUntouched old new road road' exit.ScriptFault = (new ≡ old) × (road' ≡ road)
+IsUntouched old new road road' other = Unit {0}
 
 -- Where a told text is a script that plays have, the shelves beyond its nodes are as they were.
 abbrev pub LeavesOthers : {S : Type 0} → Bool → Option (List ℕ) → List S → List S → Type 0
@@ -126,7 +93,7 @@ pub record OfUsed {I S : Type 0} (tells : Bool) (i : sources.Ghosts I) (script s
   pub so : P (take head.nodes old) (take head.nodes new)
 
 -- Each fault of a play has its cause in this call: the count of the source, of a shelf that the script uses, or of the
--- roads rose; or this is the first file of such a shelf that isn't empty. None is of a report.
+-- roads rose; or this is the first file of such a shelf that isn't empty. None is of a report, or of words.
 abbrev pub HasPlayCause : {I S D R L M : Type 0} → Bool → sources.Ghosts I → shelves.Ghosts S D →
     roads.Ghosts R L M → I → I → List S → List S → R → R → Exit → Type 0
 HasPlayCause tells i s r script script' old new road road' exit.ScriptFault =
@@ -139,6 +106,7 @@ HasPlayCause tells i s r script script' old new road road' (exit.NotEmpty node n
 HasPlayCause tells i s r script script' old new road road' exit.Done = ⊥
 HasPlayCause tells i s r script script' old new road road' (exit.Differs line want got) = ⊥
 HasPlayCause tells i s r script script' old new road road' exit.ReportFault = ⊥
+HasPlayCause tells i s r script script' old new road road' (exit.Usage rule) = ⊥
 HasPlayCause tells i s r script script' old new road road' other = Unit {0}
 
 -- The same of a run, where the count of the sink may have risen too.
@@ -199,7 +167,7 @@ pub record IsDone {I O S D R L M : Type 0} (tells : Bool) (i : sources.Ghosts I)
     (old new : List S) (road : R) (difference : Option Difference) : Type 0 where
   pub p : Played
   pub has_run : HasRun tells i s d r script script' old new road p
-  pub written : Wrote (o.written report) (o.written report') p.report.items
+  pub written : Wrote (o.written report) (o.written report') (lines_text p.report.items)
   pub differs : p.difference ≡ difference
 
 -- So it was, and a front of the report was written.
@@ -208,7 +176,7 @@ pub record IsCutShort {I O S D R L M : Type 0} (tells : Bool) (i : sources.Ghost
     (old new : List S) (road : R) : Type 0 where
   pub p : Played
   pub has_run : HasRun tells i s d r script script' old new road p
-  pub written : WroteFront (o.written report) (o.written report') p.report.items
+  pub written : WroteFront (o.written report) (o.written report') (lines_text p.report.items)
 
 -- After Done and Differs the script was played and its whole report written, after ReportFault a front of it. After want of
 -- memory nothing was written, and after any other exit the sink is as it was.
@@ -227,12 +195,12 @@ IsOver tells i o s d r script script' report report' old new road other = report
 -- what the end of writing a report says
 abbrev pub WritesReport : {O : Type 0} → sinks.Ghosts O → O → O → Played → Exit → Type 0
 WritesReport o report report' p exit.Done =
-    Wrote (o.written report) (o.written report') p.report.items × (p.difference ≡ None)
+    Wrote (o.written report) (o.written report') (lines_text p.report.items) × (p.difference ≡ None)
 WritesReport o report report' p (exit.Differs line want got) =
-    Wrote (o.written report) (o.written report') p.report.items ×
+    Wrote (o.written report) (o.written report') (lines_text p.report.items) ×
     (p.difference ≡ Some (record { line = line; want = want; got = got }))
 WritesReport o report report' p exit.ReportFault =
-    WroteFront (o.written report) (o.written report') p.report.items ×
+    WroteFront (o.written report) (o.written report') (lines_text p.report.items) ×
     FaultsIncreased (o.faults report) (o.faults report')
 WritesReport o report report' p exit.Memory = o.written report' ≡ o.written report
 WritesReport o report report' p other = ⊥

@@ -5,6 +5,8 @@ mod exits;
 mod reading;
 mod running;
 mod standard;
+mod storming;
+mod tasks;
 
 pub use exits::Exit;
 pub use running::run;

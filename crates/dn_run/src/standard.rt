@@ -4,7 +4,8 @@ ghost use Rattle.std.specs.Prelude.{◌≡◌, IfOk, length, map};
 ghost use Rattle.std.specs.String.{string_bytes};
 ghost use Rattle.hd_base.specs.declared.roads.TheConstants.{MAX_NODES};
 ghost use Rattle.dn_run.specs.Exits.{is_told};
-ghost use Rattle.dn_run.specs.Runs.{usage_of, folder_named, UsageFor};
+ghost use Rattle.dn_run.specs.Runs.{folder_named};
+ghost use Rattle.dn_run.specs.Tasks.{task_of, UsageFor};
 
 use crate::exits::Exit;
 use crate::running::run;
@@ -74,7 +75,7 @@ pub fn run_in_memory<R: Read + Drop, W: Write + Drop>(
     input: R,
     output: W,
 ) -> Exit
-    ensures { UsageFor (usage_of (map string_bytes words.now)) result }
+    ensures { UsageFor (task_of (map string_bytes words.now)) result }
 {
     match memory_shelves(alloc) {
         Ok(shelves) => run_over(alloc, words, input, output, shelves),
@@ -90,7 +91,7 @@ pub fn run_over<S: ToldShelf, R: Read + Drop, W: Write + Drop>(
     output: W,
     shelves: Vec<S>,
 ) -> Exit
-    ensures { UsageFor (usage_of (map string_bytes words.now)) result }
+    ensures { UsageFor (task_of (map string_bytes words.now)) result }
 {
     match run_with(alloc, words, input, output, shelves) {
         Ok(exit) => exit,
@@ -106,7 +107,7 @@ fn run_with<S: ToldShelf, R: Read + Drop, W: Write + Drop>(
     output: W,
     shelves: Vec<S>,
 ) -> Result<Exit, AllocError>
-    ensures { IfOk result (UsageFor (usage_of (map string_bytes words.now))) }
+    ensures { IfOk result (UsageFor (task_of (map string_bytes words.now))) }
 {
     new_roads_are_unused::<Cutting<MemRoads>>();
     let mut roads = Cutting::new(alloc, MemRoads::new(alloc, &[])?);

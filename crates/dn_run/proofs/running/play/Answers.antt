@@ -1,9 +1,7 @@
--- The words are read, then the script, and then it is played; each may end the run.
-use Rattle.std.proofs.Common.{rules, ◌≡◌, ◌++◌, take, drop, ℕ, List, length, map, IfSome, Result, Ok, Err, sym, ap, subst, ◌∙◌}
+-- The script is read, and then it is played; each may end the run.
+use Rattle.std.proofs.Common.{rules, ◌≡◌, ◌++◌, take, drop, ℕ, List, length, IfSome, Result, Ok, Err, sym, ap, subst, ◌∙◌}
 use Rattle.std.proofs.Math.Seq.{take-append_seam}
 use Rattle.std.proofs.lemmas.Result.{err_from_is_err_and}
-use Rattle.std.specs.String.{string_bytes}
-use Rattle.std.specs.Global.{Global}
 use Rattle.whole_play.proofs.NodeOpening.ListLemmas.{if_err}
 use Rattle.script_lang.specs.declared.instructions.ScriptLine.{ScriptLine}
 use Rattle.whole_play.specs.declared.playing.Played.{Played}
@@ -13,45 +11,23 @@ use Rattle.whole_play.specs.PlayScripts.Heads.{head_of}
 use Rattle.whole_play.specs.PlayScripts.Unplayed.{LinesAreTold}
 use Rattle.whole_play.specs.Playing.{IsPlayed, LeavesShelves}
 use Rattle.dn_run.specs.Reading.{HasRead, IsReadExit, Accepts, Refuses}
-use Rattle.dn_run.specs.Runs.{usage_of, UsageIn, IsBadIn, KeepsShelves, HasPlayCause}
+use Rattle.dn_run.specs.Runs.{IsBadIn, KeepsShelves}
 use Rattle.whole_play.specs.PlayModel.States.{world_of}
 use Rattle.dn_run.proofs.AnswerLaws.{completes}
-use Rattle.dn_run.proofs.RunLaws.{bad_text, keeps_played, mode_usage, mode_cause, none_broken, fault_usage, refuses_any}
+use Rattle.dn_run.proofs.RunLaws.{bad_text, keeps_played, refuses_any}
 use Rattle.dn_run.proofs.running.play.Goals as goal
 
-pub returns-in_err-read_mode-clause-usage : goal.returns-in_err-read_mode-clause-usage
-returns-in_err-read_mode-clause-usage g c =
-    let u = usage_of (map (string_bytes {Z = Global}) c.args.words.now) in
-    let e = err_from_is_err_and c.from_residual.result c.from_residual.ensures.1 in
-    subst (λ (r : Result Played Exit). UsageIn u r) (sym (e.1 ∙ ap Err e.2)) (mode_usage u c.in_err-read_mode.field-0.0 c.in_err-read_mode.ensures)
-
-pub returns-in_err-read_mode-clause-cause : goal.returns-in_err-read_mode-clause-cause
-returns-in_err-read_mode-clause-cause g c =
-    let u = usage_of (map (string_bytes {Z = Global}) c.args.words.now) in
-    let script = c.args.script.now in
-    let xs = c.args.shelves.now.items in
-    let road = c.args.roads.now in
-    let e = err_from_is_err_and c.from_residual.result c.from_residual.ensures.1 in
-    if_err c.from_residual.result c.in_err-read_mode.field-0.0 (HasPlayCause g.S.ToldShelf.told g.I.Source g.S.Shelf g.R.Roads script script xs xs road road) (e.1 ∙ ap Err e.2)
-    (mode_cause g.I.Source g.S.Shelf g.R.Roads script script xs xs road road g.S.ToldShelf.told u c.in_err-read_mode.field-0.0 c.in_err-read_mode.ensures)
-
 pub returns-in_err-lines-clause-refused : goal.returns-in_err-lines-clause-refused
-returns-in_err-lines-clause-refused g c = λ none.
+returns-in_err-lines-clause-refused g c =
     let left = g.I.Source.left c.args.script.now in
     let n = length c.args.shelves.now.items in
     let same : c.len.result ≡ n = c.len.ensures ∙ c.args.shelves.now.ok.0 in
-    let e = err_from_is_err_and c.from_residual-in_err-lines.result c.from_residual-in_err-lines.ensures.1 in
+    let e = err_from_is_err_and c.from_residual.result c.from_residual.ensures.1 in
     subst (λ (r : Result Played Exit). IfSome left (λ text. Refuses g.S.ToldShelf.told n text r)) (sym (e.1 ∙ ap Err e.2))
     (subst (λ (m : ℕ). IfSome left (λ text. Refuses {T = List ScriptLine} g.S.ToldShelf.told m text (Err c.in_err-lines.field-0.0))) same c.in_err-lines.ensures.refused)
 
-pub returns-in_err-played-clause-usage : goal.returns-in_err-played-clause-usage
-returns-in_err-played-clause-usage g c =
-    let u = usage_of (map (string_bytes {Z = Global}) c.args.words.now) in
-    let e = err_from_is_err_and c.from_residual-in_err-played.result c.from_residual-in_err-played.ensures.1 in
-    subst (λ (r : Result Played Exit). UsageIn u r) (sym (e.1 ∙ ap Err e.2)) (fault_usage u c.in_err-played.field-0.0 (none_broken u c.in_ok-read_mode.ensures))
-
 pub returns-in_err-played-clause-refused : goal.returns-in_err-played-clause-refused
-returns-in_err-played-clause-refused g c = λ none.
+returns-in_err-played-clause-refused g c =
     let left = g.I.Source.left c.args.script.now in
     let n = length c.args.shelves.now.items in
     let same : c.len.result ≡ n = c.len.ensures ∙ c.args.shelves.now.ok.0 in
@@ -59,7 +35,7 @@ returns-in_err-played-clause-refused g c = λ none.
     (subst (λ (m : ℕ). IfSome left (λ text. Refuses {T = List ScriptLine} g.S.ToldShelf.told m text (Ok c.in_ok-lines.lines))) same c.in_ok-lines.ensures.refused)
 
 pub returns-clause-refused : goal.returns-clause-refused
-returns-clause-refused g c = λ none.
+returns-clause-refused g c =
     let left = g.I.Source.left c.args.script.now in
     let n = length c.args.shelves.now.items in
     let same : c.len.result ≡ n = c.len.ensures ∙ c.args.shelves.now.ok.0 in
@@ -75,8 +51,8 @@ returns-in_err-lines-clause-bad g c =
     let before = i.faults c.args.script.now in
     let now = i.faults c.read_lines.new.source in
     let same : c.len.result ≡ n = c.len.ensures ∙ c.args.shelves.now.ok.0 in
-    let e = err_from_is_err_and c.from_residual-in_err-lines.result c.from_residual-in_err-lines.ensures.1 in
-    if_err c.from_residual-in_err-lines.result ended (IsBadIn g.S.ToldShelf.told left n) (e.1 ∙ ap Err e.2)
+    let e = err_from_is_err_and c.from_residual.result c.from_residual.ensures.1 in
+    if_err c.from_residual.result ended (IsBadIn g.S.ToldShelf.told left n) (e.1 ∙ ap Err e.2)
     (bad_text g.S.ToldShelf.told left before now n ended (subst (λ (m : ℕ). IsReadExit g.S.ToldShelf.told left before now m ended) same c.in_err-lines.ensures.cause)
     (subst (λ (m : ℕ). IfSome left (λ text. Accepts g.S.ToldShelf.told m text (Err ended))) same c.in_err-lines.ensures.accepted))
 
