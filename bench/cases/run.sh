@@ -1,6 +1,7 @@
 #!/usr/bin/env bash
 # Plays each script of a folder, and compares report and status with those that stand beside it: NAME.script,
-# NAME.report, and NAME.status where the status isn't 0.
+# NAME.report, and NAME.status where the status isn't 0. Where the folder has a file storms.txt, the summaries of storms,
+# each of these storms is played and compared with its own.
 # Usage: bench/cases/run.sh FOLDER
 set -u
 top=$(cd "$(dirname "$0")/../.." && pwd)
@@ -30,5 +31,15 @@ for script in "$folder"/*.script; do
         echo "differs: $script (status $status)"
     fi
 done
+if [ -f "$folder/storms.txt" ]; then
+    for number in $(sed -n 's/^storm //p' "$folder/storms.txt"); do
+        if "$top/dn" storm "$number" | cmp -s - <(sed -n "/^storm $number\$/,/^end\$/p" "$folder/storms.txt"); then
+            agree=$((agree + 1))
+        else
+            differ=$((differ + 1))
+            echo "differs: storm $number"
+        fi
+    done
+fi
 echo "$agree agree, $differ differ"
 [ "$differ" -eq 0 ]

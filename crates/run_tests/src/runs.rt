@@ -107,6 +107,54 @@ const BLOCK_RECOVERY: &[u8] =
 const BLOCK_RECOVERY_REPORT: &[u8] =
     b"replica 0 1 FINALIZED 1002 9 9 e3069283 ok\nreplica 1 1 FINALIZED 1002 9 9 e3069283 ok\nanswer 1 0 create ok 1001\nanswer 1 2 hflush ok 9 1001 0,1\nanswer 1 4 close lost 1002\nrecovery 7 ok 1002 9 0,1\nend\n";
 
+/// The same behind a line that gives the block's sums.
+const SUMS: [&[u8]; 3] = [
+    b"sums 1 null 512\n",
+    b"sums 1 crc32 512\n",
+    b"sums 1 crc32c 512\n",
+];
+
+const SUMMED_RECOVERY: &[u8] =
+    b"create 1 0,1\nwrite 1 313233343536373839\nhflush 1\nsettle\nrecover 1 0 0,1\nsettle\nwrite 1 00\nclose 1\n";
+
+const SUMMED_RECOVERY_REPORT: &[u8] =
+    b"replica 0 1 FINALIZED 1002 9 9 e3069283 ok\nreplica 1 1 FINALIZED 1002 9 9 e3069283 ok\nanswer 1 0 create ok 1001\nanswer 1 2 hflush ok 9 1001 0,1\nanswer 1 4 close lost 1002\nrecovery 8 ok 1002 9 0,1\nend\n";
+
+/// A recovery cuts what is read: the writer has lost its second member, whose place in the pipeline nobody takes, and of
+/// the two that are left the first has less than the third, which is read.
+const HEADS: [&[u8]; 3] = [
+    b"nodes 3\nseed 0\n",
+    b"nodes 3\nseed 1\n",
+    b"nodes 3\nseed 2\n",
+];
+
+const WRITTEN: &[u8] = b"create 1 0,1,2\nfill 1 512\nhflush 1\nsettle\nfill 1 65536\nhflush 1\n";
+
+const STEPS: [(&[u8], usize); 6] = [
+    (b"step 1 writer\n", 4),
+    (b"step 1 down 0\n", 3),
+    (b"step 1 down 1\n", 3),
+    (b"step 1 down 2\n", 3),
+    (b"step 1 ready 2\n", 3),
+    (b"step 1 up 2\n", 3),
+];
+
+const REBUILT: &[u8] =
+    b"cut 1 1 0 0\nstep 1 up 1\nstep 1 up 0\nstep 1 writer\nstep 1 down 0\nstep 1 down 1\nstep 1 up 1\nstep 1 up 0\nstep 1 writer\n";
+
+const READ_WHILE_CUT: &[u8] =
+    b"read 1 2 0 66048\nread 1 0 0 512\nread 1 0 0 513\nrecover 1 0 0,2\nsettle\n";
+
+/// What such a read may come to: the bytes from 0 up to 66048, 512 and 513, no more than what is visible, or an end.
+const MAY_BE_READ: [&[u8]; 6] = [
+    b"read 37 ok d23b37f9",
+    b"read 37 refused 13 ",
+    b"read 37 ended",
+    b"read 38 ok 5c2b5514",
+    b"read 39 refused 13 512",
+    b"read 39 ok 96b5db80",
+];
+
 /// A closed block is read from its first byte to its last.
 const READ_BACK: &[u8] =
     b"nodes 1\nseed 0\ncreate 1 0\nfill 1 600\nclose 1\nsettle\nread 1 0 0 600\n";
@@ -163,6 +211,10 @@ const EMPTY_DOWN: &[u8] =
 
 const EMPTY_UP: &[u8] = b"\x04\x08\x00\x12\x00\x04\x08\x00\x10\x00";
 
+/// The summary of the storm 7.
+const STORM_SEVEN: &[u8] =
+    b"storm 7\nfinalized 1\nrbw 9\nrwr 11\nrur 0\nbroken 3\nbytes 4455424\nok 50\nfailed 94\nrecovered 1\nend\n";
+
 /// How many flushes are told of one block.
 const FLUSHES_IN_A_ROW: usize = 16;
 
@@ -213,8 +265,29 @@ fn fused_shelf(alloc: Global, failing: u64) -> Result<Fused<MemShelf>, Fail> {
     Fused::new(shelf).map_err(|_| Fail::from("a shelf"))
 }
 
+/// So many empty shelves, of the first of which the call with this number fails.
+fn fused_shelves(alloc: Global, count: usize, failing: u64) -> Result<Vec<Fused<MemShelf>>, Fail> {
+    let mut shelves = vec![in alloc; fused_shelf(alloc, failing)?]?;
+    for _ in 1..count {
+        shelves.push(fused_shelf(alloc, 0)?)?;
+    }
+    Ok(shelves)
+}
+
 /// Runs a script on three shelves, with the words of this line.
 fn run_one(alloc: Global, line: &str, text: &[u8], failing: Failing) -> Result<Left, Fail> {
+    let shelves = fused_shelves(alloc, 3, failing.at(Port::Shelf))?;
+    run_on(alloc, shelves, line, text, failing)
+}
+
+/// Runs what the words of this line ask for, on these shelves.
+fn run_on(
+    alloc: Global,
+    shelves: Vec<Fused<MemShelf>>,
+    line: &str,
+    text: &[u8],
+    failing: Failing,
+) -> Result<Left, Fail> {
     new_roads_are_unused::<Cutting<MemRoads>>();
     let mut words = Vec::new(alloc);
     for word in line.split_whitespace() {
@@ -222,11 +295,7 @@ fn run_one(alloc: Global, line: &str, text: &[u8], failing: Failing) -> Result<L
     }
     let mut source = MemSource::new(alloc, text, &[failing.at(Port::Script)])?;
     let mut report = MemSink::new(alloc, &[failing.at(Port::Report)])?;
-    let mut shelves = vec![in alloc;
-        fused_shelf(alloc, failing.at(Port::Shelf))?,
-        fused_shelf(alloc, 0)?,
-        fused_shelf(alloc, 0)?,
-    ]?;
+    let mut shelves = shelves;
     let mut roads = Cutting::new(alloc, MemRoads::new(alloc, &[failing.at(Port::Roads)])?);
     let exit = run(
         alloc,
@@ -242,6 +311,15 @@ fn run_one(alloc: Global, line: &str, text: &[u8], failing: Failing) -> Result<L
         shelves,
         roads: roads.into_inner(),
     })
+}
+
+/// A script of these parts.
+fn script_of(alloc: Global, parts: &[&[u8]]) -> Result<Vec<u8>, Fail> {
+    let mut script = Vec::new(alloc);
+    for part in parts {
+        script.extend_from_slice(part)?;
+    }
+    Ok(script)
 }
 
 /// What each of the examples reports.
@@ -321,15 +399,88 @@ fn flushes_are_answered(rt: HostRuntime) -> Result<(), Fail> {
 fn each_connection_is_cut(rt: HostRuntime) -> Result<(), Fail> {
     for (before, behind) in CUT_PLACES {
         for cut in CUTS {
-            let mut script = Vec::new(rt.alloc());
-            for part in [b"nodes 3\nseed 7\n".as_slice(), before, cut, behind] {
-                script.extend_from_slice(part)?;
-            }
+            let parts = [b"nodes 3\nseed 7\n".as_slice(), before, cut, behind];
+            let script = script_of(rt.alloc(), &parts)?;
             let left = run_one(rt.alloc(), "play", &script, NONE)?;
             assert_eq!(rt; left.exit, Exit::Done);
             let mut lines = left.report.bytes().split(|byte| *byte == b'\n');
             assert!(rt; !lines.any(|line| line.ends_with(b" waiting")));
         }
+    }
+    Ok(())
+}
+
+/// A block is recovered whatever its sums are.
+#[test]
+fn blocks_are_recovered_under_all_sums(rt: HostRuntime) -> Result<(), Fail> {
+    for sums in SUMS {
+        let parts = [b"nodes 2\nseed 0\n".as_slice(), sums, SUMMED_RECOVERY];
+        let script = script_of(rt.alloc(), &parts)?;
+        let left = run_one(rt.alloc(), "play", &script, NONE)?;
+        assert_eq!(rt; left.report.bytes(), SUMMED_RECOVERY_REPORT);
+    }
+    Ok(())
+}
+
+/// The steps by which the packets reach the members, and the last one's acks the second.
+fn stepped(alloc: Global) -> Result<Vec<u8>, Fail> {
+    let mut steps = Vec::new(alloc);
+    for (step, count) in STEPS {
+        for _ in 0..count {
+            steps.extend_from_slice(step)?;
+        }
+    }
+    Ok(steps)
+}
+
+/// How many reads of a report ended, where each came to what it may.
+fn ended_reads(rt: &impl Abort, report: &[u8]) -> usize {
+    let reads = report
+        .split(|byte| *byte == b'\n')
+        .filter(|line| line.starts_with(b"read "));
+    let mut ended = 0;
+    for line in reads {
+        assert!(rt; MAY_BE_READ.iter().any(|may| line.starts_with(may)));
+        if line.ends_with(b"ended") {
+            ended += 1;
+        }
+    }
+    ended
+}
+
+/// A read gets the bytes that were asked for, or is refused, or ends where a recovery cut its bytes off: one does.
+#[test]
+fn recoveries_cut_what_is_read(rt: HostRuntime) -> Result<(), Fail> {
+    let steps = stepped(rt.alloc())?;
+    let mut ended = 0;
+    for head in HEADS {
+        let parts = [head, WRITTEN, &steps, REBUILT, READ_WHILE_CUT];
+        let script = script_of(rt.alloc(), &parts)?;
+        let left = run_one(rt.alloc(), "play", &script, NONE)?;
+        assert_eq!(rt; left.exit, Exit::Done);
+        ended += ended_reads(&rt, left.report.bytes());
+    }
+    assert!(rt; ended > 0);
+    Ok(())
+}
+
+/// The storm of a number is the same each time, and needs five shelves.
+#[test]
+fn storms_are_summed_up(rt: HostRuntime) -> Result<(), Fail> {
+    let few = Exit::BadScript {
+        line: 1,
+        kind: BadKind::TooManyNodes,
+    };
+    let table = [
+        (5, Exit::Done, STORM_SEVEN),
+        (5, Exit::Done, STORM_SEVEN),
+        (4, few, b"".as_slice()),
+    ];
+    for (count, wanted, summary) in table {
+        let shelves = fused_shelves(rt.alloc(), count, 0)?;
+        let left = run_on(rt.alloc(), shelves, "storm 7", NINE, NONE)?;
+        assert_eq!(rt; left.exit, wanted);
+        assert_eq!(rt; left.report.bytes(), summary);
     }
     Ok(())
 }
