@@ -3,8 +3,8 @@
 use bytes::Bytes;
 use chunk_sums::crc;
 use hd_base::{
-    BlockId, ByteList, Conn, ConnId, FileError, LinkOut, NodeId, Receipt, Roads, Shelf, Stamp,
-    SumKind, SumRule,
+    BlockId, ByteList, Conn, ConnId, FileError, LinkOut, NodeId, Receipt, ReplicaState, Roads,
+    Shelf, Stamp, SumKind, SumRule,
 };
 use mem_ports::{MemDrawer, MemIn, MemOut, MemRoads, MemShelf};
 use op_headers::{BlockRef, ReadOp};
@@ -75,7 +75,7 @@ fn take(book: &mut Book, packet: &Packet) -> Result<Receipt, BookFault> {
     book.packet(CONN, packet)
 }
 
-/// The book of a replica that is written: 300 bytes are acked, and 512 written.
+/// The book of a replica that is written: 300 bytes are acked, and 900 written.
 pub(crate) fn written(rt: &impl Abort, alloc: Global) -> Book {
     let mut book = absent(alloc).expect(rt, "a book");
     let sums = SumRule::new(SumKind::Crc32c, 512).expect(rt, "a rule");
@@ -86,7 +86,33 @@ pub(crate) fn written(rt: &impl Abort, alloc: Global) -> Book {
     take(&mut book, &packet(rt, alloc, 0, 0, 300)).expect(rt, "a packet");
     book.ack(CONN, 0, true).expect(rt, "an ack");
     take(&mut book, &packet(rt, alloc, 1, 300, 212)).expect(rt, "a packet");
+    take(&mut book, &packet(rt, alloc, 2, 512, 388)).expect(rt, "a packet");
     book
+}
+
+/// The book of the same replica after a restart: it waits for a block recovery.
+pub(crate) fn restarted(rt: &impl Abort, alloc: Global, book: Book) -> Book {
+    let Some(info) = book.replica().info() else {
+        panic!(rt; "no replica");
+    };
+    let ReplicaState::Rbw = info.original else {
+        panic!(rt; "not written");
+    };
+    if book.replica().is_broken() {
+        panic!(rt; "a broken replica");
+    }
+    let block = book.replica().block();
+    let (drawer, _) = book.close_book();
+    ReplicaBook::found(
+        alloc,
+        block,
+        ReplicaState::Rwr,
+        info.stamp,
+        info.sums,
+        drawer,
+    )
+    .ok()
+    .expect(rt, "a book")
 }
 
 /// A read of the block of this pool.

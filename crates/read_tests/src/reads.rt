@@ -1,8 +1,8 @@
-//! Reads of a replica of which 300 bytes are visible and 512 written.
+//! Reads of a replica of which 300 bytes are visible and 900 written, and of one that waits for a block recovery.
 
-use crate::helpers::{End, POOL, bytes_of, joined, listened, pass, read, step, written};
+use crate::helpers::{End, POOL, bytes_of, joined, listened, pass, read, restarted, step, written};
 use chunk_sums::crc;
-use hd_base::SumKind;
+use hd_base::{ReplicaState, SumKind};
 use mem_ports::{MemIn, MemOut};
 use op_headers::ReadOp;
 use read_core::ReadFault as NodeFault;
@@ -21,6 +21,9 @@ const HEADER: &[u8] =
 /// The empty last packet, at 300.
 const EMPTY: &[u8] =
     b"\0\0\0\x04\0\x19\x09\x2c\x01\0\0\0\0\0\0\x11\x01\0\0\0\0\0\0\0\x18\x01\x25\0\0\0\0";
+
+/// The answer that refuses a read by the state of a replica that waits for a block recovery.
+const WAITING: &[u8] = b"\x09\x08\x01\x12\0\x2a\x033 2";
 
 /// A read of which nothing was done.
 fn begun(rt: &impl Abort, alloc: Global, end: End, op: ReadOp) -> Reading<MemIn, MemOut> {
@@ -117,4 +120,22 @@ fn a_read_of_another_pool_is_refused(rt: HostRuntime) {
         panic!(rt; "a refusal");
     };
     assert_eq!(rt; message.as_slice(), b"15".as_slice());
+}
+
+/// Nothing is visible of a replica that waits for a block recovery: its node refuses the read, and says in which state it is.
+#[test]
+fn a_replica_that_waits_for_recovery_is_not_read(rt: HostRuntime) {
+    let alloc = rt.alloc();
+    let mut book = restarted(&rt, alloc, written(&rt, alloc));
+    let (mut roads, port) = listened(&rt, alloc);
+    let (upper, mut lower) = joined(&rt, alloc, &mut roads, port);
+    let op = read(&rt, alloc, POOL, 100, 10);
+    let served = serve_read(alloc, &mut book, &op, &mut lower.outward);
+    let state = ReplicaState::Rwr;
+    assert_eq!(rt; served, Served::Refused(Refusal::WrongState { state }));
+    pass(&rt, alloc, &mut roads, &mut lower, false);
+    let sent = roads
+        .carried_bytes(alloc, upper.id, false)
+        .expect(&rt, "memory");
+    assert_eq!(rt; sent.as_slice(), WAITING);
 }
