@@ -4,6 +4,8 @@
 #[cfg(test)]
 mod playing;
 #[cfg(test)]
+mod ready;
+#[cfg(test)]
 mod recovering;
 #[cfg(test)]
 mod roads;
