@@ -1,0 +1,14 @@
+pub mod Rounding
+pub mod Serving
+pub mod Hearing
+pub mod Giving
+pub mod Limiting
+pub mod AllLimited
+pub mod Keeping
+pub mod Asides
+pub mod Lowers
+pub mod Readers
+pub mod AllReads
+pub mod Going
+pub mod Holding
+pub mod AllHeld

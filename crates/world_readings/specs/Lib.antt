@@ -1,0 +1,4 @@
+pub mod Results
+pub mod Going
+pub mod Lengths
+pub mod Origins
