@@ -10,7 +10,7 @@ runs=${1:-3}
 work=$(mktemp -d)
 trap 'rm -rf "$work"' EXIT
 
-crates="hd_base file_calls chunk_sums proto_fields mem_ports meta_file block_files packet_codec replica_core replica_model replica_calls replica_files"
+crates="hd_base file_calls refusing_files chunk_sums proto_fields mem_ports meta_file block_files packet_codec replica_core replica_model replica_calls replica_files"
 git init -q "$work"
 for crate in $crates; do
   grep "^$crate:" "$top/crates.txt" >> "$work/crates.txt"

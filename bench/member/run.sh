@@ -10,7 +10,7 @@ runs=${1:-3}
 work=$(mktemp -d)
 trap 'rm -rf "$work"' EXIT
 
-crates="hd_base file_calls chunk_sums proto_fields link_pieces mem_ports meta_file block_files packet_codec ack_codec op_headers frame_feed \
+crates="hd_base file_calls refusing_files chunk_sums proto_fields link_pieces mem_ports meta_file block_files packet_codec ack_codec op_headers frame_feed \
   link_messages node_refs replica_core replica_model replica_calls request_refusals member_core replica_files block_receiver packet_responder \
   pipe_turns pipe_setup pipe_member"
 git init -q "$work"
