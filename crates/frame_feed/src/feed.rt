@@ -156,8 +156,8 @@ impl Feed {
         self.take()
     }
 
-    /// The fault that is answered for good.
-    fn refused(&self) -> Option<FeedFault>
+    /// The fault that is answered for good, if there is one so far.
+    pub fn refused(&self) -> Option<FeedFault>
         ensures fault { result ≡ self.now.refused }
         ensures of_stream { IfSome result IsOfStream }
     {

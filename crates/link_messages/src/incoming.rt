@@ -98,6 +98,13 @@ impl Incoming {
         }
     }
 
+    /// The fault for which nothing more can be read, if there is one so far: after `Unreadable` there is.
+    pub fn fault(&self) -> Option<FeedFault>
+        ensures { result ≡ self.now.refused }
+    {
+        self.feed.refused()
+    }
+
     /// The message at the front of what reached the feed, `None` where it isn't whole.
     fn ask<M: Streamed>(&mut self) -> Option<Next<M>>
         ensures { AsksEnds M.kind self.old self.new result }

@@ -190,6 +190,25 @@ impl<F: Files> ReplicaBook<F> {
         receipt_of(self.state.cut(Event::Update { recovery, length }))
     }
 
+    /// A read of which only the entry is made: its bytes are asked for afterwards, piece by piece.
+    pub fn admit_read(
+        &mut self,
+        named: Stamp,
+        offset: u64,
+        length: u64,
+    ) -> Result<Receipt, BookFault>
+        ensures { BookEnds F.Files self.old self.new
+            (ReplicaEvent.Other (Event.Read named offset length)) result }
+    {
+        receipt_of(
+            self.state.keep(Event::Read {
+                named,
+                offset,
+                length,
+            }),
+        )
+    }
+
     /// A read: gives `into` the bytes that it asks for, in place of what that held. `into` stays as it was
     /// where the read isn't answered.
     pub fn read(
