@@ -1,6 +1,7 @@
 -- A node has stopped, whose lower ends of connections that readers dialled are brought back.
 use Rattle.std.specs.Prelude.{◌≡◌, ◌==◌, ℕ, Bool, true, false, List, slice_get, slice_set, Option, Some, None, Ok}
 use Rattle.hd_base.specs.Channels.{Plain}
+use Rattle.hd_base.specs.declared.ends.Conn.{Conn}
 use Rattle.hd_base.specs.declared.links.LinkIn as link_in
 use Rattle.hd_base.specs.declared.links.LinkOut as link_out
 use Rattle.hd_base.specs.declared.numbers.NodeId.{NodeId}
@@ -37,12 +38,21 @@ abbrev pub AreKnown : {I O : Type 0} → Option Plain → Reads I O → Type 0
 AreKnown {I} {O} plain reads = (k : ℕ) (s : ReadServer I O) → slice_get reads.servers.items k ≡ Some s
     → EndIsKnown plain s.end
 
+-- the end of the connection, if it goes on
+abbrev pub conn_of : {I O : Type 0} → ReadEnd I O → Option (Conn I O)
+conn_of (read_end.Idle end) = Some end
+conn_of (read_end.Serving read place) = Some read.end
+conn_of read_end.Ended = None
+
 -- A lower end was brought back, if it went on.
+abbrev pub BringsIf : {R I O : Type 0} → roads.Ghosts R I O → link_in.Ghosts I → link_out.Ghosts O →
+    Option (Conn I O) → R → R → Type 0
+BringsIf r i o (Some end) road road' = BringsEnd r i o end road road' (Ok tt)
+BringsIf r i o None road road' = road' ≡ road
+
 abbrev pub Ends : {R I O : Type 0} → roads.Ghosts R I O → link_in.Ghosts I → link_out.Ghosts O → ReadEnd I O → R → R →
     Type 0
-Ends r i o (read_end.Idle end) road road' = BringsEnd r i o end road road' (Ok tt)
-Ends r i o (read_end.Serving read place) road road' = BringsEnd r i o read.end road road' (Ok tt)
-Ends r i o read_end.Ended road road' = road' ≡ road
+Ends r i o e road road' = BringsIf r i o (conn_of e) road road'
 
 -- the server without its lower end
 abbrev pub ended : {I O : Type 0} → ReadServer I O → ReadServer I O

@@ -4,10 +4,10 @@ ghost use Rattle.std.specs.Prelude.{◌≡◌, ◌≤◌, ◌<◌, length, OnOk}
 ghost use Rattle.hd_base.specs.Ends.{KeepsConnections};
 ghost use Rattle.play_nodes.specs.MemberEvents.Roads.{RoadsPass};
 ghost use Rattle.play_servers.specs.Known.{EndIsKnown};
-ghost use Rattle.play_reads.specs.Stopping.{AreKnown, StopShows, EndsAt, Ends, took};
+ghost use Rattle.play_reads.specs.Stopping.{AreKnown, StopShows, EndsAt, Ends, conn_of, took};
 
 use crate::reads::Reads;
-use hd_base::{ConnId, Files, LinkIn, LinkOut, NodeId, Roads};
+use hd_base::{Conn, ConnId, Files, LinkIn, LinkOut, NodeId, Roads};
 use play_nodes::{Nodes, nodes_follow};
 use play_primaries::read_clients_stay;
 use play_servers::{ReadEnd, ends_elsewhere_stay, idle_flushes_are_nets, nets_stay_sane};
@@ -86,13 +86,22 @@ fn bring<I: LinkIn, O: LinkOut, R: Roads<Inward = I, Outward = O>>(
     ensures connections { KeepsConnections (R.plain roads.old) (R.plain roads.new) }
     ensures faults { R.faults roads.old ≤ R.faults roads.new }
 {
-    let brought = match end {
-        ReadEnd::Idle(end) => roads.bring(alloc, end),
-        ReadEnd::Serving { read, .. } => roads.bring(alloc, read.end),
-        ReadEnd::Ended => Ok(()),
+    let Some(end) = conn_of(end) else {
+        return Ok(());
     };
-    match brought {
+    match roads.bring(alloc, end) {
         Ok(()) => Ok(()),
         Err(_) => Err(AllocError),
+    }
+}
+
+/// The end of the connection, if it has further events.
+fn conn_of<I: Drop, O: Drop>(end: ReadEnd<I, O>) -> Option<Conn<I, O>>
+    ensures { result ≡ conn_of end }
+{
+    match end {
+        ReadEnd::Idle(end) => Some(end),
+        ReadEnd::Serving { read, .. } => Some(read.end),
+        ReadEnd::Ended => None,
     }
 }

@@ -2,7 +2,6 @@
 
 use crate::helpers::{POOL, bytes_of, holding, listened, pass, read, served_text};
 use op_headers::ReadOp;
-use read_core::ReadFault as NodeFault;
 use std::alloc::Global;
 use std::process::Abort;
 use std::sync::Wait;
@@ -59,6 +58,6 @@ fn a_wrong_sum_is_found(rt: HostRuntime) {
     let alloc = rt.alloc();
     let op = read(&rt, alloc, POOL, 100, 10);
     let (result, sent) = run(&rt, alloc, &op, Some(100));
-    assert!(rt; matches!(result, Err(ReadFault::Node(NodeFault::BadSum { chunk: 0 }))));
+    assert!(rt; matches!(result, Err(ReadFault::BadSum { chunk: 0 })));
     assert!(rt; !sent.ends_with(CHECKSUM_OK));
 }

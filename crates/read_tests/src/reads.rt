@@ -5,7 +5,6 @@ use chunk_sums::crc;
 use hd_base::{ReplicaState, SumKind};
 use mem_ports::{MemIn, MemOut};
 use op_headers::ReadOp;
-use read_core::ReadFault as NodeFault;
 use replica_core::Refusal;
 use std::alloc::Global;
 use std::process::Abort;
@@ -103,7 +102,7 @@ fn a_read_past_the_visible_length_is_refused(rt: HostRuntime) {
         served,
         Served::Refused(Refusal::OutOfRange { visible: 300 })
     );
-    let ReadStep::Ended(Err(ReadFault::Node(NodeFault::Refused { message }))) = last else {
+    let ReadStep::Ended(Err(ReadFault::Refused { message })) = last else {
         panic!(rt; "a refusal");
     };
     assert_eq!(rt; message.as_slice(), b"13 300".as_slice());
@@ -116,7 +115,7 @@ fn a_read_of_another_pool_is_refused(rt: HostRuntime) {
     let alloc = rt.alloc();
     let (served, last, _, _) = run(&rt, alloc, b"BP-2", 0, 1);
     assert_eq!(rt; served, Served::Pool);
-    let ReadStep::Ended(Err(ReadFault::Node(NodeFault::Refused { message }))) = last else {
+    let ReadStep::Ended(Err(ReadFault::Refused { message })) = last else {
         panic!(rt; "a refusal");
     };
     assert_eq!(rt; message.as_slice(), b"15".as_slice());

@@ -29,7 +29,7 @@ use Rattle.visible_read.specs.declared.talking.ReadFault.TheVariants as ended
 use Rattle.visible_read.specs.declared.talking.ReadStep.{ReadStep}
 use Rattle.visible_read.specs.declared.talking.ReadStep.TheVariants as step
 use Rattle.visible_read.specs.declared.talking.Talk.{Talk}
-use Rattle.visible_read.specs.Talking.{checksum_ok, request_of, GivesBytes, VerifiesAs, TakesAs, Takes, StepsAs, Listens, Steps, out_of, with_received, with_inward}
+use Rattle.visible_read.specs.Talking.{checksum_ok, request_of, GivesBytes, VerifiesAs, TakesAs, sums_len, Takes, StepsAs, Listens, Steps, out_of, with_received, with_inward}
 use Rattle.world_settling.specs.World.Event.TheVariants as event
 use Rattle.world_settling.specs.World.Parts.{Message, read_status, Reader, reads, has_read}
 use Rattle.world_settling.specs.World.Worlds.{World, Change, apply}
@@ -50,9 +50,10 @@ use Rattle.reader_events.specs.declared.faults.ReaderFault.{ReaderFault}
 use Rattle.reader_events.specs.declared.faults.ReaderFault.TheVariants as fault
 use Rattle.reader_events.specs.declared.hearing.Heard.{Heard}
 use Rattle.reader_events.specs.declared.hearing.Heard.TheVariants as heard
-use Rattle.reader_events.specs.Hearing.{bytes_read, TakesBy, IsEnded, IsHeard, IsNextIn, IsNextOf, CanHear, ReaderLeft, HearEnds, HearShows}
+use Rattle.reader_events.specs.Hearing.{bytes_read, read_of, heard_read, TakesBy, IsEnded, IsHeard, IsNextIn, IsNextOf, CanHear, ReaderLeft, HearEnds, HearShows}
 use Rattle.reader_events.specs.Showing.{ReadingShows, ReaderStands}
 use Rattle.reader_events.proofs.HearSteps.{checksum_text, Finds, finds, fails, wants, read_finds, ended_by, given_risen}
+use Rattle.reader_events.proofs.ToldFaults.{told-back}
 use Rattle.reader_events.proofs.MakeLaws.{hears-makes, turn-sends}
 use Rattle.reader_events.proofs.OrderLaws.{goes-answered}
 
@@ -184,13 +185,13 @@ module _ {R I O : Type 0} (r : roads.Ghosts R I O) (i : link_in.Ghosts I) (o : l
         ended_by r i o EndsSo new.end (Err ended.LinkFailed) middle road' left tt
         (λ g. given_risen r i o new.end (Err ended.LinkFailed) middle road' (Err fault.LinkFailed) c at failed g) (ended_as (Err ended.LinkFailed) e)
 
-    by_fault : (why : ReadFault) (half : I) → t.does ≡ turn.Fails why → HeldAt i o n1 false [] (held_by (is_end x)) c false (with_inward held.end half) → ShutsBy o (with_inward held.end half) new.end → how ≡ step.Ended (Err (ended.Node why)) → Ends
-    by_fault why half does h shuts e =
+    by_fault : (why : ReadFault) (told : reading_fault.ReadFault) (half : I) → read_of (Err told) ≡ Ok (Err why) → t.does ≡ turn.Fails why → HeldAt i o n1 false [] (held_by (is_end x)) c false (with_inward held.end half) → ShutsBy o (with_inward held.end half) new.end → how ≡ step.Ended (Err told) → Ends
+    by_fault why told half same does h shuts e =
         let k : Change = reader_turn w1 line c t (turn.Fails why) in
         let o1 = out_as (turn.Fails why) does in
-        ended_by r i o EndsSo new.end (Err (ended.Node why)) middle road' left tt
-        (λ g. shut_left k [] (Err why) o1 (turn-sends w1 line c t (turn.Fails why)) (reader_after k o1 refl) (shut_end n1 [] (held_by (is_end x)) (with_inward held.end half) new.end shuts h.is)
-        (ap (λ (n : ConnId). n.0) shuts.id ∙ h.id) (shuts.lower ∙ h.side) g.brings) (ended_as (Err (ended.Node why)) e)
+        ended_by r i o EndsSo new.end (Err told) middle road' left tt
+        (λ g. subst (λ (z : Result (Result (Vec ℕ) ReadFault) ReaderFault). EndsSo (heard_read z)) (sym same) (shut_left k [] (Err why) o1 (turn-sends w1 line c t (turn.Fails why)) (reader_after k o1 refl) (shut_end n1 [] (held_by (is_end x)) (with_inward held.end half) new.end shuts h.is)
+        (ap (λ (n : ConnId). n.0) shuts.id ∙ h.id) (shuts.lower ∙ h.side) g.brings)) (ended_as (Err told) e)
 
     -- all bytes are there
     by_bytes : (half : I) (sent : O) (result : ReadStep) → how ≡ result → t.does ≡ turn.Verified → HeldAt i o n1 false [] (held_by (is_end x)) c false (with_inward held.end half) → SendsAlone o (Some checksum_ok) (done.Taken None) held.end.outward sent
@@ -226,10 +227,10 @@ module _ {R I O : Type 0} (r : roads.Ghosts R I O) (i : link_in.Ghosts I) (o : l
     moved e = subst (λ (z : ReadStep). IsHeard r i o new z middle road' left) e he
 
     by_turn : (d : ReadTurn) (received : IncomingState) (half : I) → t.does ≡ d → HeldAt i o n1 false [] (held_by (is_end x)) c false (with_inward held.end half) → (is_end x ≡ false → received ≡ nothing_received)
-        → TakesAs o d t.reading (out_of (with_received held.talk received)) new.talk (with_inward held.end half) new.end how → Ends
+        → TakesAs o (sums_len (from_node_of x)) d t.reading (out_of (with_received held.talk received)) new.talk (with_inward held.end half) new.end how → Ends
     by_turn turn.Goes received half does h none k = let m = moved k.2 in subst EndsSo (sym m.0) (goes_left received half h none does k.0 k.1 m.1)
     by_turn turn.Verified received half does h none k = by_sending k.done half k.sent (out_of (with_received held.talk received)) does h k.sends k.follows
-    by_turn (turn.Fails why) received half does h none k = by_fault why half does h k.shuts k.ends
+    by_turn (turn.Fails why) received half does h none k = by_fault why k.told half (told-back x s.state received.refused _ why k.told (λ z. ap (λ (y : IncomingState). y.refused) (none z)) does k.tells) does h k.fails.shuts k.fails.ends
 
     by_taken : (core : Option ReadingState) (received : IncomingState) (half : I) → core ≡ Some s.state → HeldAt i o n1 false [] (held_by (is_end x)) c false (with_inward held.end half) → (is_end x ≡ false → received ≡ nothing_received)
         → Takes o (from_node_of x) core (with_received held.talk received) new.talk (with_inward held.end half) new.end how → Ends

@@ -3,6 +3,7 @@ pub mod Staying
 pub mod OrderLaws
 pub mod AllInOrder
 pub mod HearSteps
+pub mod ToldFaults
 pub mod HearLaws
 pub mod AskSteps
 pub mod AskLaws

@@ -9,7 +9,11 @@ use Rattle.hd_base.specs.declared.links.LinkOut as link_out
 use Rattle.hd_base.specs.declared.numbers.ConnId.{ConnId}
 use Rattle.hd_base.specs.declared.roads.Roads as roads
 use Rattle.link_pieces.specs.Roads.{ExchangesEnd, BringsEnd}
+use Rattle.packet_codec.specs.declared.faults.PacketFault.TheVariants as packet_fault
+use Rattle.frame_feed.specs.declared.faults.FeedFault.{FeedFault}
+use Rattle.frame_feed.specs.declared.faults.FeedFault.TheVariants as feed
 use Rattle.read_core.specs.declared.reading.ReadFault.{ReadFault}
+use Rattle.read_core.specs.declared.reading.ReadFault.TheVariants as read_fault
 use Rattle.read_core.specs.declared.reading.ReadPhase.{ReadPhase}
 use Rattle.read_core.specs.declared.reading.ReadPhase.TheVariants as phase
 use Rattle.read_core.specs.Readings.{ReadingState}
@@ -43,12 +47,31 @@ abbrev pub bytes_read : Result (Vec ℕ) ReadFault → Result (List ℕ) ReadFau
 bytes_read (Ok bytes) = Ok bytes.items
 bytes_read (Err why) = Err why
 
+-- what the world has for a message that is malformed
+abbrev pub malformed_as : FeedFault → ReadFault
+malformed_as (feed.Packet (packet_fault.SumCount rest)) = read_fault.SumCount
+malformed_as other = read_fault.Unreadable
+
+-- why a read failed by what the node sent or didn't send, as the world has it, or why the event isn't done
+abbrev pub node_fault : reading_fault.ReadFault → Result ReadFault ReaderFault
+node_fault (ended.Refused text) = Ok (read_fault.Refused text.items)
+node_fault (ended.BadSum chunk) = Ok (read_fault.BadSum chunk)
+node_fault (ended.Malformed why) = Ok (malformed_as why)
+node_fault (ended.OutOfPlace want got) = Ok (read_fault.OutOfPlace want got)
+node_fault (ended.Rule kind chunk) = Ok (read_fault.Rule kind chunk)
+node_fault ended.Ended = Ok read_fault.Ended
+node_fault ended.LinkFailed = Err fault.LinkFailed
+node_fault ended.Memory = Err fault.Memory
+
+-- the same of a read that failed
+abbrev pub failed_as : Result ReadFault ReaderFault → Result (Result (Vec ℕ) ReadFault) ReaderFault
+failed_as (Ok why) = Ok (Err why)
+failed_as (Err why) = Err why
+
 -- what was read, as the world has it, or why the event isn't done
 abbrev pub read_of : Result (Vec ℕ) reading_fault.ReadFault → Result (Result (Vec ℕ) ReadFault) ReaderFault
 read_of (Ok bytes) = Ok (Ok bytes)
-read_of (Err (ended.Node why)) = Ok (Err why)
-read_of (Err ended.LinkFailed) = Err fault.LinkFailed
-read_of (Err ended.Memory) = Err fault.Memory
+read_of (Err why) = failed_as (node_fault why)
 
 -- STEPS OF THE EVENT
 

@@ -10,11 +10,15 @@ ghost use Rattle.reader_events.specs.Hearing.{
   TakesStanding,
   IsHeard,
   IsGivenBack,
+  node_fault,
+  malformed_as,
   read_of,
 };
 
 use crate::faults::{ReaderFault, road_fault};
-use hd_base::{LinkIn, LinkOut, Roads};
+use frame_feed::FeedFault;
+use hd_base::{ByteList, LinkIn, LinkOut, Roads};
+use packet_codec::PacketFault;
 use read_core::ReadFault;
 use std::alloc::Global;
 use visible_read::{ReadFault as ReadingFault, ReadStep, Reading};
@@ -108,8 +112,34 @@ fn read_of(ended: Result<Vec<u8>, ReadingFault>) -> Result<Result<Vec<u8>, ReadF
 {
     match ended {
         Ok(bytes) => Ok(Ok(bytes)),
-        Err(ReadingFault::Node(fault)) => Ok(Err(fault)),
-        Err(ReadingFault::LinkFailed) => Err(ReaderFault::LinkFailed),
-        Err(ReadingFault::Memory) => Err(ReaderFault::Memory),
+        Err(fault) => Ok(Err(node_fault(fault)?)),
+    }
+}
+
+/// Why a read failed by what the node sent or didn't send, as the world has it, or why the event isn't done.
+fn node_fault(fault: ReadingFault) -> Result<ReadFault, ReaderFault>
+    ensures { result ≡ node_fault fault }
+{
+    match fault {
+        ReadingFault::Refused { message } => Ok(ReadFault::Refused {
+            message: ByteList::from_vec(message),
+        }),
+        ReadingFault::BadSum { chunk } => Ok(ReadFault::BadSum { chunk }),
+        ReadingFault::Malformed(fault) => Ok(malformed_as(fault)),
+        ReadingFault::OutOfPlace { want, got } => Ok(ReadFault::OutOfPlace { want, got }),
+        ReadingFault::Rule { kind, chunk } => Ok(ReadFault::Rule { kind, chunk }),
+        ReadingFault::Ended => Ok(ReadFault::Ended),
+        ReadingFault::LinkFailed => Err(ReaderFault::LinkFailed),
+        ReadingFault::Memory => Err(ReaderFault::Memory),
+    }
+}
+
+/// What the world has for a message that is malformed.
+fn malformed_as(fault: FeedFault) -> ReadFault
+    ensures { result ≡ malformed_as fault }
+{
+    match fault {
+        FeedFault::Packet(PacketFault::SumCount { .. }) => ReadFault::SumCount,
+        _ => ReadFault::Unreadable,
     }
 }

@@ -20,7 +20,7 @@ use Rattle.visible_read.specs.PipeTurns.Acting.{sized_response}
 use Rattle.road_traffic.specs.Showing.{Net}
 use Rattle.visible_read.specs.declared.answering.Course.{Course}
 use Rattle.visible_read.specs.declared.answering.Course.TheVariants as course
-use Rattle.visible_read.specs.declared.answering.Reply.TheVariants as reply
+use Rattle.visible_read.specs.FrameFeed.Message.TheVariants as reply
 use Rattle.visible_read.specs.declared.answering.Served.{Served}
 use Rattle.visible_read.specs.declared.answering.Served.TheVariants as served
 use Rattle.visible_read.specs.declared.answering.Took.{Took}
@@ -235,7 +235,7 @@ module _ {F R I O : Type 0} (f : files.Ghosts F) (r : roads.Ghosts R I O) (i : l
       lost_caused f r i o conn.0 book road road' st.read.end why (ap (λ (y : ConnId). y.0) h.keeps.id ∙ h.stands.end_is.id) (out_failed i o (o.faults end.outward) st.read.end rose) p
 
   answered_ends : HasStepped → (answered : Bool) (took : Took) (x : Result ServingState RequestRefusal) (receipt : Option Receipt) (result : Result (Outcome I O) ServeFault) → st.read.serving ≡ left (unanswered op) took → st.served ≡ took.served
-      → IsQuiet op book book' x ⊎ HasBroken f op book book' x → HasSaid o (sized_response (answering x)) end.outward st.read.end.outward → took ≡ answered_as x (reply.Answer (answering x)) receipt → IsPlaced r i o st.served st road road' result
+      → IsQuiet op book book' x ⊎ HasBroken f op book book' x → HasSaid o (sized_response (answering x)) end.outward st.read.end.outward → took ≡ answered_as x (reply.Response (answering x)) receipt → IsPlaced r i o st.served st road road' result
       → RequestEnds f r i o w net conn answered op book book' road road' result
   answered_ends h answered took (Ok s) receipt result leaves ends how says is p =
       taken_ends h answered s result how says (ap (λ (y : ServingRun). y.course) leaves ∙ ap (λ (t : Took). t.course) is)

@@ -22,7 +22,7 @@ use Rattle.visible_read.specs.PipeTurns.Acting.{sized_response}
 use Rattle.visible_read.specs.PipeTurns.Turning.{SendsAlone}
 use Rattle.visible_read.specs.PipeTurns.Done.{Done}
 use Rattle.visible_read.specs.PipeTurns.Done.TheVariants as done
-use Rattle.visible_read.specs.declared.answering.Reply.TheVariants as reply
+use Rattle.visible_read.specs.FrameFeed.Message.TheVariants as reply
 use Rattle.visible_read.specs.declared.answering.Served.TheVariants as served
 use Rattle.visible_read.specs.declared.answering.Took.{Took}
 use Rattle.visible_read.specs.Answers.{answering, answered, told, Asks, Answers, Tells, TellsIf, begun_by, receipt_in}
@@ -117,7 +117,7 @@ module _ {F O : Type 0} (f : files.Ghosts F) (o : link_out.Ghosts O) (op : ReadO
 
 -- The answer was sent, or it wasn't: memory ran out, or the link failed, and its count rose.
 pub data Telling {O : Type 0} (o : link_out.Ghosts O) (x : Result ServingState RequestRefusal) (receipt : Option Receipt) (out out' : O) (took : Took) : Type 0 where
-  sent : HasSaid o (sized_response (answering x)) out out' → took ≡ answered x (reply.Answer (answering x)) receipt → Telling o x receipt out out' took
+  sent : HasSaid o (sized_response (answering x)) out out' → took ≡ answered x (reply.Response (answering x)) receipt → Telling o x receipt out out' took
   unmade : took.served ≡ Some served.Memory → Telling o x receipt out out' took
   lost : took.served ≡ Some served.LinkFailed → FaultsIncreased (o.faults out) (o.faults out') → Telling o x receipt out out' took
 

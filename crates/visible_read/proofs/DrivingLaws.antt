@@ -18,8 +18,8 @@ use Rattle.pipe_turns.specs.declared.turning.Done.{Done}
 use Rattle.pipe_turns.specs.declared.turning.Done.TheVariants as done
 use Rattle.visible_read.specs.declared.answering.Course.{Course}
 use Rattle.visible_read.specs.declared.answering.Course.TheVariants as course
-use Rattle.visible_read.specs.declared.answering.Reply.{Reply}
-use Rattle.visible_read.specs.declared.answering.Reply.TheVariants as reply
+use Rattle.frame_feed.specs.declared.notes.Message.{Message}
+use Rattle.frame_feed.specs.declared.notes.Message.TheVariants as reply
 use Rattle.visible_read.specs.declared.answering.Served.{Served}
 use Rattle.visible_read.specs.declared.answering.Took.{Took}
 use Rattle.visible_read.specs.Answers.{told, answered, TellsIf, Answers}
@@ -49,15 +49,15 @@ sending-open course.Over h = absurd h
 none-some : {A : Type 0} (P : Type 0) (x : A) → Some x ≡ None → P
 none-some P x h = cc
 
-answered-on : (x : Result ServingState RequestRefusal) (r : Reply) (receipt : Option Receipt) → (answered x r receipt).served ≡ None → IsSending (answered x r receipt).course
+answered-on : (x : Result ServingState RequestRefusal) (r : Message) (receipt : Option Receipt) → (answered x r receipt).served ≡ None → IsSending (answered x r receipt).course
 answered-on (Ok s) r receipt h = tt
 answered-on (Err e) r receipt h = none-some _ _ h
 
 told-on : (x : Result ServingState RequestRefusal) (r : Response) (receipt : Option Receipt) (d : Done) → (told x r receipt d).served ≡ None → IsSending (told x r receipt d).course
-told-on x r receipt (done.Taken b) h = answered-on x (reply.Answer r) receipt h
-told-on x r receipt (done.Refused e b) h = answered-on x (reply.Answer r) receipt h
-told-on x r receipt (done.File b) h = answered-on x (reply.Answer r) receipt h
-told-on x r receipt (done.MirrorFailed b) h = answered-on x (reply.Answer r) receipt h
+told-on x r receipt (done.Taken b) h = answered-on x (reply.Response r) receipt h
+told-on x r receipt (done.Refused e b) h = answered-on x (reply.Response r) receipt h
+told-on x r receipt (done.File b) h = answered-on x (reply.Response r) receipt h
+told-on x r receipt (done.MirrorFailed b) h = answered-on x (reply.Response r) receipt h
 told-on x r receipt (done.LinkFailed b) h = none-some _ _ h
 told-on x r receipt done.Memory h = none-some _ _ h
 

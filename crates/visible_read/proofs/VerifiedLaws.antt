@@ -1,5 +1,5 @@
 -- A read that has all bytes has taken what completes it, and has sent its request and CHECKSUM_OK.
-use Rattle.std.proofs.Common.{◌≡◌, ℕ, List, [], ◌∷◌, ◌++◌, Option, Some, None, option_map, Result, Ok, Err, Vec, Global, inl, inr, refl, sym, ap, subst, ◌∙◌}
+use Rattle.std.proofs.Common.{◌≡◌, ℕ, ℤ, List, [], ◌∷◌, ◌++◌, Option, Some, None, option_map, Result, Ok, Err, Vec, Global, inl, inr, refl, sym, ap, subst, ◌∙◌}
 use Rattle.std.specs.Result.{IfOk}
 use Rattle.hd_base.specs.declared.ends.Conn.{Conn}
 use Rattle.hd_base.specs.declared.links.LinkIn as link_in
@@ -21,7 +21,7 @@ use Rattle.visible_read.specs.declared.talking.ReadFault.{ReadFault}
 use Rattle.visible_read.specs.declared.talking.ReadStep.{ReadStep}
 use Rattle.visible_read.specs.declared.talking.ReadStep.TheVariants as step
 use Rattle.visible_read.specs.declared.talking.Talk.{Talk}
-use Rattle.visible_read.specs.Talking.{Begins, StepsAs, AsksAs, Listens, Follows, Takes, TakesAs, VerifiesAs, Fails, GivesBytes, request_of, checksum_ok, without_request, with_received, with_inward, out_of}
+use Rattle.visible_read.specs.Talking.{Begins, StepsAs, AsksAs, Listens, Follows, Takes, TakesAs, sums_len, VerifiesAs, Fails, GivesBytes, request_of, checksum_ok, without_request, with_received, with_inward, out_of}
 use Rattle.visible_read.specs.ReadingBack.{Place, LeadsOn, Passes, Reads, HasRead}
 use Rattle.visible_read.proofs.ReadingLaws.{GoesOn}
 
@@ -88,24 +88,24 @@ module _ {I O : Type 0} (i : link_in.Ghosts I) (o : link_out.Ghosts O) where
   asks-on op half text (done.LinkFailed b) old new end end' sent result s a is same taken core n = fails-on _ _ _ new _ end' result a n
   asks-on op half text done.Memory old new end end' sent result s a is same taken core n = fails-on _ _ _ new _ end' result a n
 
-  turns-on : (op : ReadOp) (half : O) (t : ReadTurn) (s : ReadingState) (old new : Talk) (end end' : Conn I O) (result : ReadStep)
-      → TakesAs o t s old new end end' result → GoesOn result → SentSo op half end.outward (request_of old)
+  turns-on : (op : ReadOp) (half : O) (k : ℤ) (t : ReadTurn) (s : ReadingState) (old new : Talk) (end end' : Conn I O) (result : ReadStep)
+      → TakesAs o k t s old new end end' result → GoesOn result → SentSo op half end.outward (request_of old)
       → (taken : List FromNode) → s ≡ after_all (asked op) taken → Knows op half (record { talk = new; end = end' })
-  turns-on op half turn.Goes s old new end end' result x n sent taken is = record {
+  turns-on op half k turn.Goes s old new end end' result x n sent taken is = record {
     taken = taken;
     core = ap (λ (t : Talk). t.core) x.0 ∙ ap Some is;
     sent = subst (λ (r : Talk). SentSo op half end'.outward (request_of r)) (sym x.0)
         (subst (λ (e : Conn I O). SentSo op half e.outward (request_of old)) (sym x.1) sent);
   }
-  turns-on op half turn.Verified s old new end end' result x n sent taken is = verifies-on _ x.done s old new (with_half end x.sent) end' result x.follows n
-  turns-on op half (turn.Fails why) s old new end end' result x n sent taken is = fails-on _ _ old new end end' result x n
+  turns-on op half k turn.Verified s old new end end' result x n sent taken is = verifies-on _ x.done s old new (with_half end x.sent) end' result x.follows n
+  turns-on op half k (turn.Fails why) s old new end end' result x n sent taken is = fails-on _ x.told old new end end' result x.fails n
 
   takes-on : (op : ReadOp) (half : O) (x : FromNode) (c : Option ReadingState) (old new : Talk) (end end' : Conn I O) (result : ReadStep)
       → Takes o x c old new end end' result → GoesOn result → SentSo op half end.outward (request_of old)
       → (taken : List FromNode) → c ≡ Some (after_all (asked op) taken) → Knows op half (record { talk = new; end = end' })
   takes-on op half x None old new end end' result t n sent taken is = absurd t
   takes-on op half x (Some s) old new end end' result (inl t) n sent taken is =
-      turns-on op half (take_from s x).does (take_from s x).reading (out_of old) new end end' result t n sent (taken ++ x ∷ [])
+      turns-on op half (sums_len x) (take_from s x).does (take_from s x).reading (out_of old) new end end' result t n sent (taken ++ x ∷ [])
       (ap (λ (y : ReadingState). (take_from y x).reading) (some-same s _ is) ∙ sym (after-more (asked op) taken x))
     where
       some-same : (a b : ReadingState) → Some a ≡ Some b → a ≡ b
@@ -167,20 +167,20 @@ module _ {I O : Type 0} (i : link_in.Ghosts I) (o : link_out.Ghosts O) where
   last-verifies op half s x taken (done.LinkFailed b) old new end end' sent v p f was is verified = not-ended _ _ v _ f.ends refl
   last-verifies op half s x taken done.Memory old new end end' sent v p f was is verified = not-ended _ _ v _ f.ends refl
 
-  last-turns : (op : ReadOp) (half : O) (s : ReadingState) (x : FromNode) (taken : List FromNode) (t : ReadTurn) (old new : Talk) (end end' : Conn I O) (v : Vec ℕ Global)
-      → TakesAs o t (take_from s x).reading old new end end' (step.Ended (Ok v))
+  last-turns : (op : ReadOp) (half : O) (s : ReadingState) (x : FromNode) (taken : List FromNode) (n : ℤ) (t : ReadTurn) (old new : Talk) (end end' : Conn I O) (v : Vec ℕ Global)
+      → TakesAs o n t (take_from s x).reading old new end end' (step.Ended (Ok v))
       → o.sent end.outward ≡ option_map (λ ps. ps ++ op_text (op_of.Read op) ∷ []) (o.sent half)
       → s ≡ after_all (asked op) taken → (take_from s x).does ≡ t → HasRead o op half end'.outward v.items
-  last-turns op half s x taken turn.Goes old new end end' v f was is does = let e : step.Ended (Ok v) ≡ step.Moved = f.2 in cc
-  last-turns op half s x taken turn.Verified old new end end' v f was is does = last-verifies op half s x taken f.done old new end end' f.sent v f.sends f.follows was is does
-  last-turns op half s x taken (turn.Fails why) old new end end' v f was is does = not-ended _ _ v _ f.ends refl
+  last-turns op half s x taken n turn.Goes old new end end' v f was is does = let e : step.Ended (Ok v) ≡ step.Moved = f.2 in cc
+  last-turns op half s x taken n turn.Verified old new end end' v f was is does = last-verifies op half s x taken f.done old new end end' f.sent v f.sends f.follows was is does
+  last-turns op half s x taken n (turn.Fails why) old new end end' v f was is does = not-ended _ _ v _ f.fails.ends refl
 
   last-takes : (op : ReadOp) (half : O) (x : FromNode) (taken : List FromNode) (c : Option ReadingState) (old new : Talk) (end end' : Conn I O) (v : Vec ℕ Global)
       → Takes o x c old new end end' (step.Ended (Ok v))
       → o.sent end.outward ≡ option_map (λ ps. ps ++ op_text (op_of.Read op) ∷ []) (o.sent half)
       → c ≡ Some (after_all (asked op) taken) → HasRead o op half end'.outward v.items
   last-takes op half x taken None old new end end' v t was is = absurd t
-  last-takes op half x taken (Some s) old new end end' v (inl t) was is = last-turns op half s x taken (take_from s x).does (out_of old) new end end' v t was (some-is s _ is) refl
+  last-takes op half x taken (Some s) old new end end' v (inl t) was is = last-turns op half s x taken (sums_len x) (take_from s x).does (out_of old) new end end' v t was (some-is s _ is) refl
     where
       some-is : (a b : ReadingState) → Some a ≡ Some b → a ≡ b
       some-is a b e = cc

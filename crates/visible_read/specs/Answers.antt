@@ -5,6 +5,8 @@ use Rattle.hd_base.specs.Wire.{IsStatus}
 use Rattle.hd_base.specs.declared.files.Files as files
 use Rattle.hd_base.specs.declared.links.LinkOut as link_out
 use Rattle.hd_base.specs.declared.numbers.Receipt.{Receipt}
+use Rattle.frame_feed.specs.declared.notes.Message.{Message}
+use Rattle.frame_feed.specs.declared.notes.Message.TheVariants as reply
 use Rattle.ack_codec.specs.ResponseTexts.{HasListedKind}
 use Rattle.ack_codec.specs.declared.responses.Response.{Response}
 use Rattle.op_headers.specs.declared.ops.ReadOp.{ReadOp}
@@ -26,8 +28,6 @@ use Rattle.pipe_turns.specs.declared.turning.Done.{Done}
 use Rattle.pipe_turns.specs.declared.turning.Done.TheVariants as done
 use Rattle.visible_read.specs.declared.answering.Course.{Course}
 use Rattle.visible_read.specs.declared.answering.Course.TheVariants as course
-use Rattle.visible_read.specs.declared.answering.Reply.{Reply}
-use Rattle.visible_read.specs.declared.answering.Reply.TheVariants as reply
 use Rattle.visible_read.specs.declared.answering.Served.{Served}
 use Rattle.visible_read.specs.declared.answering.Served.TheVariants as served
 use Rattle.visible_read.specs.declared.answering.Took.{Took}
@@ -64,11 +64,11 @@ abbrev pub wanting : Option Receipt → Course → Took
 wanting receipt at = record { receipt = receipt; reply = None; course = at; served = Some served.Memory }
 
 -- the read has ended
-abbrev pub ended : Option Receipt → Option Reply → Served → Took
+abbrev pub ended : Option Receipt → Option Message → Served → Took
 ended receipt sent how = record { receipt = receipt; reply = sent; course = course.Over; served = Some how }
 
 -- the answer was sent: packets follow, or the read has ended
-abbrev pub answered : Result ServingState RequestRefusal → Reply → Option Receipt → Took
+abbrev pub answered : Result ServingState RequestRefusal → Message → Option Receipt → Took
 answered (Ok s) sent receipt = record {
   receipt = receipt;
   reply = Some sent;
@@ -81,7 +81,7 @@ answered (Err r) sent receipt = ended receipt (Some sent) (served_as r)
 abbrev pub told : Result ServingState RequestRefusal → Response → Option Receipt → Done → Took
 told begun response receipt done.Memory = wanting receipt course.Asked
 told begun response receipt (done.LinkFailed booked) = ended receipt None served.LinkFailed
-told begun response receipt other = answered begun (reply.Answer response) receipt
+told begun response receipt other = answered begun (reply.Response response) receipt
 
 -- The answer is sent as one piece.
 pub record Tells {O : Type 0} (o : link_out.Ghosts O) (begun : Result ServingState RequestRefusal)

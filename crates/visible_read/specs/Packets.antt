@@ -19,7 +19,7 @@ use Rattle.pipe_turns.specs.Turning.{SendsAlone}
 use Rattle.pipe_turns.specs.declared.turning.Done.{Done}
 use Rattle.pipe_turns.specs.declared.turning.Done.TheVariants as done
 use Rattle.visible_read.specs.declared.answering.Course.TheVariants as course
-use Rattle.visible_read.specs.declared.answering.Reply.TheVariants as reply
+use Rattle.frame_feed.specs.declared.notes.Message.TheVariants as reply
 use Rattle.visible_read.specs.declared.answering.Served.TheVariants as served
 use Rattle.visible_read.specs.declared.answering.Took.{Took}
 use Rattle.visible_read.specs.Answers.{wanting, ended}

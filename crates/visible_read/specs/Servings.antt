@@ -7,7 +7,7 @@ use Rattle.op_headers.specs.declared.ops.ReadOp.{ReadOp}
 use Rattle.pipe_turns.specs.ReplicaFiles.BookState.{BookState}
 use Rattle.visible_read.specs.declared.answering.Course.{Course}
 use Rattle.visible_read.specs.declared.answering.Course.TheVariants as course
-use Rattle.visible_read.specs.declared.answering.Reply.{Reply}
+use Rattle.frame_feed.specs.declared.notes.Message.{Message}
 use Rattle.visible_read.specs.declared.answering.Served.{Served}
 use Rattle.visible_read.specs.declared.answering.Took.{Took}
 use Rattle.visible_read.specs.Answers.{Answers}
@@ -18,7 +18,7 @@ pub record ServingRun : Type 0 where
   pub op : ReadOp
   pub course : Course
   pub receipt : Option Receipt
-  pub reply : Option Reply
+  pub reply : Option Message
 
 -- a read that is to be answered
 abbrev pub unanswered : ReadOp → ServingRun

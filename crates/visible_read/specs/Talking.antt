@@ -1,14 +1,21 @@
 -- What a reading client does on its connection.
-use Rattle.std.specs.Prelude.{◌≡◌, ◌≤◌, ◌⊎◌, ℕ, false, true, is_some, List, [], ◌∷◌, length, Option, Some, None, option_map, Ok, Err}
+use Rattle.std.specs.Prelude.{◌≡◌, ◌≤◌, ◌⊎◌, ℕ, ℤ, pos, false, true, is_some, List, [], ◌∷◌, length, Option, Some, None, option_map, Ok, Err}
 use Rattle.hd_base.specs.declared.ends.Conn.{Conn}
 use Rattle.hd_base.specs.declared.links.LinkIn as link_in
 use Rattle.hd_base.specs.declared.links.LinkOut as link_out
+use Rattle.ack_codec.specs.declared.faults.ResponseFault.TheVariants as response
+use Rattle.packet_codec.specs.declared.faults.PacketFault.TheVariants as packet
+use Rattle.frame_feed.specs.declared.faults.FeedFault.{FeedFault}
+use Rattle.frame_feed.specs.declared.faults.FeedFault.TheVariants as feed
 use Rattle.link_messages.specs.Incomings.{IncomingState, nothing_received}
 use Rattle.op_headers.specs.declared.ops.Op.TheVariants as op
 use Rattle.op_headers.specs.declared.ops.ReadOp.{ReadOp}
 use Rattle.op_headers.specs.Requests.{op_message, op_text}
 use Rattle.proto_fields.specs.Frames.{limit}
 use Rattle.read_core.specs.declared.reading.FromNode.{FromNode}
+use Rattle.read_core.specs.declared.reading.FromNode.TheVariants as taken
+use Rattle.read_core.specs.declared.reading.ReadFault as core_fault
+use Rattle.read_core.specs.declared.reading.ReadFault.TheVariants as core
 use Rattle.read_core.specs.declared.reading.ReadTurn.{ReadTurn}
 use Rattle.read_core.specs.declared.reading.ReadTurn.TheVariants as turn
 use Rattle.read_core.specs.Readings.{ReadingState, asked, take_from}
@@ -94,13 +101,42 @@ pub record Verifies {I O : Type 0} (o : link_out.Ghosts O) (s : ReadingState) (o
   pub sends : SendsStatus o done end.outward sent
   pub follows : VerifiesAs o done s old new (with_half end sent) end' result
 
+-- how many bytes of sums a packet has, 0 of anything else
+abbrev pub sums_len : FromNode → ℤ
+sums_len (taken.Packet p) = pos (length p.sums)
+sums_len other = pos 0
+
+-- Why a message is malformed that can't be read: the feed's fault. Without one it is a packet in place of the answer, or
+-- an answer behind the first, which counts as an answer without its status.
+abbrev pub unreadable_as : Option FeedFault → FeedFault
+unreadable_as (Some e) = e
+unreadable_as None = feed.Response (response.Missing 1)
+
+-- The read's fault as it is told, by the fault of the feed, and how many bytes of sums the last packet had.
+abbrev pub TellsFault : Option FeedFault → ℤ → core_fault.ReadFault → ReadFault → Type 0
+TellsFault refused sums (core.Refused m) (fault.Refused text) = text.items ≡ m
+TellsFault refused sums (core.Refused m) told = ⊥
+TellsFault refused sums (core.BadSum chunk) told = told ≡ fault.BadSum chunk
+TellsFault refused sums core.SumCount told = told ≡ fault.Malformed (feed.Packet (packet.SumCount sums))
+TellsFault refused sums core.Unreadable told = told ≡ fault.Malformed (unreadable_as refused)
+TellsFault refused sums (core.OutOfPlace want got) told = told ≡ fault.OutOfPlace want got
+TellsFault refused sums (core.Rule kind chunk) told = told ≡ fault.Rule kind chunk
+TellsFault refused sums core.Ended told = told ≡ fault.Ended
+
+-- The read fails with this fault, as it is told.
+pub record FailsAs {I O : Type 0} (o : link_out.Ghosts O) (sums : ℤ) (why : core_fault.ReadFault) (old new : Talk)
+    (end end' : Conn I O) (result : ReadStep) : Type 0 where
+  pub told : ReadFault
+  pub tells : TellsFault old.incoming.refused sums why told
+  pub fails : Fails o told old new end end' result
+
 -- The read does what it says.
-abbrev pub TakesAs : {I O : Type 0} → link_out.Ghosts O → ReadTurn → ReadingState → Talk → Talk → Conn I O → Conn I O →
-    ReadStep → Type 0
-TakesAs o turn.Goes s old new end end' result =
+abbrev pub TakesAs : {I O : Type 0} → link_out.Ghosts O → ℤ → ReadTurn → ReadingState → Talk → Talk → Conn I O →
+    Conn I O → ReadStep → Type 0
+TakesAs o sums turn.Goes s old new end end' result =
     (new ≡ record old { core = Some s; answered = true }) × (end' ≡ end) × (result ≡ step.Moved)
-TakesAs o turn.Verified s old new end end' result = Verifies o s old new end end' result
-TakesAs o (turn.Fails why) s old new end end' result = Fails o (fault.Node why) old new end end' result
+TakesAs o sums turn.Verified s old new end end' result = Verifies o s old new end end' result
+TakesAs o sums (turn.Fails why) s old new end end' result = FailsAs o sums why old new end end' result
 
 abbrev pub out_of : Talk → Talk
 out_of t = record t { core = None }
@@ -110,7 +146,7 @@ abbrev pub Takes : {I O : Type 0} → link_out.Ghosts O → FromNode → Option 
     Conn I O → ReadStep → Type 0
 Takes o x None old new end end' result = ⊥
 Takes o x (Some s) old new end end' result =
-    TakesAs o (take_from s x).does (take_from s x).reading (out_of old) new end end' result ⊎
+    TakesAs o (sums_len x) (take_from s x).does (take_from s x).reading (out_of old) new end end' result ⊎
     Fails o fault.Memory (out_of old) new end end' result
 
 -- What came is followed.

@@ -23,9 +23,9 @@ ghost use Rattle.visible_read.specs.Answers.{
 ghost use Rattle.visible_read.specs.Sound.{IsBegun, IsSound};
 
 use ack_codec::{Response, encode_response};
+use frame_feed::Message;
 use hd_base::{Files, LinkOut, Receipt};
 use op_headers::ReadOp;
-use packet_codec::Packet;
 use pipe_turns::{BookFault, Done, ReplicaBook, send_alone};
 use read_core::{Serving as CoreServing, read_event, refusal_response};
 use replica_core::{Refusal, Replica};
@@ -41,15 +41,6 @@ pub enum Course {
     Sending(CoreServing),
     /// It has ended.
     Over,
-}
-
-/// What is sent to the reader.
-#[derive(Debug, Drop)]
-pub enum Reply {
-    /// The answer to its request.
-    Answer(Response),
-    /// A packet.
-    Packet(Packet),
 }
 
 /// How the serving of a read ended.
@@ -74,7 +65,7 @@ pub enum Served {
 #[derive(Debug, Drop)]
 pub struct Took {
     pub receipt: Option<Receipt>,
-    pub reply: Option<Reply>,
+    pub reply: Option<Message>,
     pub course: Course,
     pub served: Option<Served>,
 }
@@ -107,8 +98,7 @@ fn ask<F: Files, O: LinkOut>(
     ensures sound { IsSound result.course }
 {
     let begun = begun_in(op, book.replica());
-    let mut unread = Vec::new(alloc);
-    let booked = book.read(op.block.stamp, op.offset, op.len, &mut unread);
+    let booked = book.admit_read(op.block.stamp, op.offset, op.len);
     follow(alloc, begun, booked, out)
 }
 
@@ -222,14 +212,14 @@ fn told(
     match done {
         Done::Memory => wanting(receipt, Course::Asked),
         Done::LinkFailed { .. } => ended(receipt, None, Served::LinkFailed),
-        _ => answered(begun, Reply::Answer(response), receipt),
+        _ => answered(begun, Message::Response(response), receipt),
     }
 }
 
 /// What follows once the answer was sent.
 fn answered(
     begun: Result<CoreServing, RequestRefusal>,
-    reply: Reply,
+    reply: Message,
     receipt: Option<Receipt>,
 ) -> Took
     requires { IsBegun begun }
@@ -271,7 +261,7 @@ pub(crate) fn wanting(receipt: Option<Receipt>, course: Course) -> Took
 }
 
 /// The read has ended.
-pub(crate) fn ended(receipt: Option<Receipt>, reply: Option<Reply>, served: Served) -> Took
+pub(crate) fn ended(receipt: Option<Receipt>, reply: Option<Message>, served: Served) -> Took
     ensures { result ≡ ended receipt reply served }
 {
     Took {

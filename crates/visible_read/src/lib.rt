@@ -12,7 +12,7 @@ mod reading_back;
 mod serving;
 mod talking;
 
-pub use answering::{Course, Reply, Served, Took};
+pub use answering::{Course, Served, Took};
 pub use asking::fits_request;
 pub use driving::serve_read;
 pub use laws::packets_follow_the_read;

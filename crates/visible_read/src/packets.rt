@@ -7,8 +7,9 @@ ghost use Rattle.read_core.specs.Servings.{piece_len, packet_of};
 ghost use Rattle.visible_read.specs.Sound.{IsNext, IsSound};
 ghost use Rattle.visible_read.specs.Packets.{SendsNext, PassesBody, faulted, passed, passed_on};
 
-use crate::answering::{Course, Reply, Served, Took, ended, wanting};
+use crate::answering::{Course, Served, Took, ended, wanting};
 use bytes::Bytes;
+use frame_feed::Message;
 use hd_base::{Files, LinkOut, Receipt};
 use packet_codec::{Packet, encode_packet};
 use pipe_turns::{BookFault, Done, ReplicaBook, send_alone};
@@ -123,14 +124,14 @@ fn passed_on(core: &CoreServing, packet: Packet, receipt: Receipt) -> Took
 {
     if packet.last {
         let packets = packet.seqno.unsigned_abs() + 1;
-        let reply = Some(Reply::Packet(packet));
+        let reply = Some(Message::Packet(packet));
         return ended(Some(receipt), reply, Served::Sent { packets });
     }
     let mut next = *core;
     next.sent();
     Took {
         receipt: Some(receipt),
-        reply: Some(Reply::Packet(packet)),
+        reply: Some(Message::Packet(packet)),
         course: Course::Sending(next),
         served: None,
     }

@@ -4,8 +4,9 @@ ghost use Rattle.std.specs.Prelude.{◌≡◌, None, false};
 ghost use Rattle.visible_read.specs.Servings.{unanswered, is_over, Steps};
 ghost use Rattle.visible_read.specs.Sound.{IsSound};
 
-use crate::answering::{Course, Reply, Served, Took, answer};
+use crate::answering::{Course, Served, Took, answer};
 use crate::packets::send_next;
+use frame_feed::Message;
 use hd_base::{Files, LinkOut, Receipt};
 use op_headers::ReadOp;
 use pipe_turns::ReplicaBook;
@@ -19,7 +20,7 @@ pub struct Serving {
     op: ReadOp,
     course: Course,
     receipt: Option<Receipt>,
-    reply: Option<Reply>,
+    reply: Option<Message>,
 }
 
 impl Model for Serving {
@@ -89,7 +90,7 @@ impl Serving {
     }
 
     /// Takes out what the last step booked and sent.
-    pub fn last(&mut self) -> (Option<Receipt>, Option<Reply>)
+    pub fn last(&mut self) -> (Option<Receipt>, Option<Message>)
         ensures given { result ≡ (self.old.receipt, self.old.reply) }
         ensures left { self.new ≡ record self.old { receipt = None; reply = None } }
     {

@@ -1,6 +1,6 @@
 //! What a reading client does on its connection, step by step.
 
-ghost use Rattle.std.specs.Prelude.{◌≡◌, true, IfOk, Some, is_some};
+ghost use Rattle.std.specs.Prelude.{◌≡◌, pos, length, true, IfOk, Some, is_some};
 ghost use Rattle.visible_read.specs.Talking.{
   FitsRequest,
   Begins,
@@ -13,15 +13,21 @@ ghost use Rattle.visible_read.specs.Talking.{
   Verifies,
   Finishes,
   Fails,
+  TellsFault,
+  sums_len,
+  unreadable_as,
   SendsStatus,
   StaysOpen,
 };
 
 use crate::hearing::{Came, hear};
+use ack_codec::ResponseFault;
+use frame_feed::FeedFault;
 use hd_base::{Conn, LinkIn, LinkOut};
 use link_messages::Incoming;
 use link_pieces::{send_piece, take_room};
 use op_headers::{Op, ReadOp, encode_op};
+use packet_codec::PacketFault;
 use pipe_turns::{Done, send_alone};
 use read_core::{FromNode, ReadFault as CoreFault, ReadTurn, Reading as CoreReading};
 use std::alloc::{AllocError, Global};
@@ -31,11 +37,26 @@ use thiserror::Error;
 const CHECKSUM_OK: [u8; 3] = [2, 8, 6];
 
 /// Why a read fails.
-#[derive(Debug, Drop, PartialEq, Eq, Error)]
+#[derive(Debug, Drop, Error)]
 pub enum ReadFault {
-    /// What the node sent, or didn't send.
-    #[error("{0}")]
-    Node(CoreFault),
+    /// The node refused, with this message.
+    #[error("the read was refused")]
+    Refused { message: Vec<u8> },
+    /// The sum of this chunk of the block differs, and those of all before it agree.
+    #[error("the sum of chunk {chunk} differs")]
+    BadSum { chunk: u64 },
+    /// A message can't be read, or a packet hasn't one sum for each chunk (`SumCount`).
+    #[error("a message can't be read: {0}")]
+    Malformed(FeedFault),
+    /// A packet's number or offset isn't the next one, or the last packet stands below the end that was asked for.
+    #[error("a packet stands at {got}, expected {want}")]
+    OutOfPlace { want: u64, got: i64 },
+    /// The answer names no rule of sums (both numbers are 0 where it names none at all).
+    #[error("no sums are of kind {kind} over {chunk} bytes")]
+    Rule { kind: u32, chunk: u32 },
+    /// The connection ended first.
+    #[error("the connection ended")]
+    Ended,
     /// The link failed, and its count of faults rose.
     #[error("the link failed")]
     LinkFailed,
@@ -162,21 +183,23 @@ impl Talk {
             unreachable!();
         };
         let mut core = core;
+        let sums = sums_len(&taken);
         let Ok(turn) = core.take(taken) else {
             return self.fail(end, ReadFault::Memory);
         };
-        self.turn(alloc, end, core, turn)
+        self.turn(alloc, end, core, turn, sums)
     }
 
-    /// Does what the read says, which was taken out.
+    /// Does what the read says, which was taken out. What was taken before had so many bytes of sums.
     fn turn<I: LinkIn, O: LinkOut>(
         &mut self,
         alloc: Global,
         end: &mut Conn<I, O>,
         core: CoreReading,
         turn: ReadTurn,
+        sums: i64,
     ) -> ReadStep
-        ensures does { TakesAs O.LinkOut turn core self.old self.new end.old end.new result }
+        ensures does { TakesAs O.LinkOut sums turn core self.old self.new end.old end.new result }
         ensures still { StaysOpen result self.new.core }
     {
         match turn {
@@ -186,7 +209,10 @@ impl Talk {
                 ReadStep::Moved
             }
             ReadTurn::Verified => self.verify(alloc, end, core),
-            ReadTurn::Fails(fault) => self.fail(end, ReadFault::Node(fault)),
+            ReadTurn::Fails(fault) => {
+                let fault = told(fault, self.incoming.fault(), sums);
+                self.fail(end, fault)
+            }
         }
     }
 
@@ -226,6 +252,53 @@ impl Talk {
         end.outward.shut();
         ReadStep::Ended(Err(fault))
     }
+}
+
+/// Why the read fails, by the fault of the read, the feed's, and how many bytes of sums what was taken last had.
+fn told(fault: CoreFault, refused: Option<FeedFault>, sums: i64) -> ReadFault
+    ensures { TellsFault refused sums fault result }
+{
+    match fault {
+        CoreFault::Refused { message } => ReadFault::Refused {
+            message: message.into_vec(),
+        },
+        CoreFault::BadSum { chunk } => ReadFault::BadSum { chunk },
+        CoreFault::SumCount => {
+            ReadFault::Malformed(FeedFault::Packet(PacketFault::SumCount { rest: sums }))
+        }
+        CoreFault::Unreadable => ReadFault::Malformed(unreadable_as(refused)),
+        CoreFault::OutOfPlace { want, got } => ReadFault::OutOfPlace { want, got },
+        CoreFault::Rule { kind, chunk } => ReadFault::Rule { kind, chunk },
+        CoreFault::Ended => ReadFault::Ended,
+    }
+}
+
+/// Why a message is malformed that can't be read: the feed's fault. Without one it is a packet in place of the answer,
+/// or an answer behind the first, which counts as an answer without its status.
+fn unreadable_as(refused: Option<FeedFault>) -> FeedFault
+    ensures { result ≡ unreadable_as refused }
+{
+    match refused {
+        Some(fault) => fault,
+        None => FeedFault::Response(ResponseFault::Missing { field: 1 }),
+    }
+}
+
+/// How many bytes of sums a packet has, 0 of anything else.
+fn sums_len(taken: &FromNode) -> i64
+    ensures { result ≡ sums_len taken.now }
+{
+    match taken {
+        FromNode::Packet(packet) => len_of(packet.sums.as_slice()),
+        FromNode::Response(_) | FromNode::Unreadable | FromNode::End => 0,
+    }
+}
+
+/// How many bytes there are.
+fn len_of(bytes: &[u8]) -> i64
+    ensures { result ≡ pos (length bytes.now) }
+{
+    bytes.len() as i64
 }
 
 /// Sends CHECKSUM_OK.
