@@ -142,6 +142,11 @@ Settles r i o false seat.Empty link' old new = (link' ≡ seat.Empty) × (new �
 Settles r i o false seat.Lost link' old new = (link' ≡ seat.Lost) × (new ≡ old)
 Settles r i o false (seat.Open l) link' old new = GivesBack r i o l.end link' old new
 
+abbrev pub SettlesPlace : {R I O : Type 0} → roads.Ghosts R I O → link_in.Ghosts I → link_out.Ghosts O → Bool → ℕ
+    → List (Seat I O) → List (Seat I O) → R → R → Type 0
+SettlesPlace r i o keeps place links links' old new =
+    IsAt (λ before after. Settles r i o keeps before after old new) place links links'
+
 -- The connection to the member at this place is kept where an answer is awaited, and else given up.
 abbrev pub SettlesAt : {R I O : Type 0} → roads.Ghosts R I O → link_in.Ghosts I → link_out.Ghosts O → List Standing
     → ℕ → Held R I O → Held R I O → Type 0

@@ -1,6 +1,6 @@
 -- How a member is dialled.
-use Rattle.std.specs.Prelude.{◌≡◌, ℕ, ◌+◌, nat_le, if◌then◌else◌, Bool, true, false, List, All, Option, Some, None}
-use Rattle.std.specs.Prelude.{IfSome, Result, Ok, Err}
+use Rattle.std.specs.Prelude.{◌≡◌, ℕ, ◌+◌, ◌≤◌, nat_le, if◌then◌else◌, Bool, true, false, List, length, All, Option}
+use Rattle.std.specs.Prelude.{Some, None, IfSome, Result, Ok, Err}
 use Rattle.std.specs.declared.alloc.AllocError.{AllocError}
 use Rattle.hd_base.specs.Channels.{Plain}
 use Rattle.hd_base.specs.Ends.{IsKnown}
@@ -54,6 +54,15 @@ SameEnd old new = conn_of new ≡ conn_of old
 -- Roads that know the ends of all connections know them afterwards.
 abbrev pub KeepsEnds : {I O : Type 0} → List (Seat I O) → List (Seat I O) → Type 0
 KeepsEnds old new = (plain : Option Plain) → All (LinkIsKnown plain) old → All (LinkIsKnown plain) new
+
+-- Each connection has its place still, and the roads know the ends of all, and what they knew; their count of faults
+-- doesn't fall.
+pub record LinksStay {R I O : Type 0} (r : roads.Ghosts R I O) (links links' : List (Seat I O)) (old new : R)
+    : Type 0 where
+  pub count : length links' ≡ length links
+  pub known : All (LinkIsKnown (r.plain new)) links'
+  pub kept : KeepsKnown (r.plain old) (r.plain new)
+  pub faults : r.faults old ≤ r.faults new
 
 -- The end of a dial that was answered, at a port that is listened on; nothing was sent or heard on it.
 pub record IsLink {R I O : Type 0} (r : roads.Ghosts R I O) (i : link_in.Ghosts I) (o : link_out.Ghosts O) (port : ℕ)

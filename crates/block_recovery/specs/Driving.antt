@@ -1,5 +1,6 @@
 -- A block recovery, from its first step to its last.
-use Rattle.std.specs.Prelude.{◌≡◌, ◌⊎◌, ℕ, List, Option, Some, None}
+use Rattle.std.specs.Prelude.{◌≡◌, ◌⊎◌, ℕ, Bool, true, false, List, Option, Some, None}
+use Rattle.std.specs.List.{list_any}
 use Rattle.hd_base.specs.declared.numbers.BlockId.{BlockId}
 use Rattle.hd_base.specs.declared.numbers.NodeId.{NodeId}
 use Rattle.hd_base.specs.declared.links.LinkIn as link_in
@@ -14,6 +15,7 @@ use Rattle.block_recovery.specs.declared.primary.PrimaryStep.{PrimaryStep}
 use Rattle.block_recovery.specs.declared.primary.PrimaryStep.TheVariants as step
 use Rattle.block_recovery.specs.Actions.{Passes}
 use Rattle.block_recovery.specs.Beginning.{StartsSo}
+use Rattle.block_recovery.specs.Dialling.{is_lost}
 use Rattle.block_recovery.specs.Steps.{IsNew, Leads}
 
 -- Its first step, or one of a primary that has begun.
@@ -52,7 +54,12 @@ pub record Comes {D R I O : Type 0} (d : desk.Ghosts D) (r : roads.Ghosts R I O)
   pub count : ℕ
   pub passes : Passes (LeadsOn d r i o) count a b
 
--- The steps of a recovery, the last of which ended it so.
+-- an end is lost only where memory ran out
+abbrev pub ended_as : Recovered → Bool → Recovered
+ended_as end true = recovered.Memory
+ended_as end false = end
+
+-- The steps of a recovery, the last of which ended it so, or an end was lost in them for want of memory.
 pub record EndsIn {D R I O : Type 0} (d : desk.Ghosts D) (r : roads.Ghosts R I O) (i : link_in.Ghosts I)
     (o : link_out.Ghosts O) (block : BlockId) (members : List NodeId) (office office' : D) (old new : R)
     (result : Recovered) : Type 0 where
@@ -61,7 +68,9 @@ pub record EndsIn {D R I O : Type 0} (d : desk.Ghosts D) (r : roads.Ghosts R I O
   pub before : Place D R I O
   pub is_new : IsNew block members first
   pub comes : Comes d r i o (record { primary = first; office = office; road = old }) before
-  pub ends : StepLeads d r i o before (record { primary = last; office = office'; road = new }) (step.Ended result)
+  pub end : Recovered
+  pub ends : StepLeads d r i o before (record { primary = last; office = office'; road = new }) (step.Ended end)
+  pub is : result ≡ ended_as end (list_any (λ link. is_lost (Some link)) last.links.items)
 
 -- There was no memory to begin, and nothing was done.
 pub record IsUndone {D R : Type 0} (office office' : D) (old new : R) (result : Recovered) : Type 0 where

@@ -1,5 +1,6 @@
 -- What an exchange, and giving back, make of the connections of a primary and of the roads.
-use Rattle.std.specs.Prelude.{◌≡◌, ◌||◌, ◌-◌, ℕ, List, length, Option, Result, Ok, Err}
+use Rattle.std.specs.Prelude.{◌≡◌, ◌||◌, ◌-◌, ℕ, true, false, List, length, Option, Some, Result, Ok, Err}
+use Rattle.std.specs.List.{list_any}
 use Rattle.hd_base.specs.declared.ends.RoadError.{RoadError}
 use Rattle.hd_base.specs.declared.numbers.ConnId.{ConnId}
 use Rattle.hd_base.specs.declared.links.LinkIn as link_in
@@ -10,6 +11,7 @@ use Rattle.block_recovery.specs.declared.links.Link.{Link}
 use Rattle.block_recovery.specs.declared.links.Seat.{Seat}
 use Rattle.block_recovery.specs.declared.links.Seat.TheVariants as seat
 use Rattle.block_recovery.specs.Actions.{Held, IsAt, Passes, BringsBack}
+use Rattle.block_recovery.specs.Dialling.{is_lost}
 
 -- Its end is exchanged, and what was heard on it stays.
 pub record Exchanges {R I O : Type 0} (r : roads.Ghosts R I O) (i : link_in.Ghosts I) (o : link_out.Ghosts O)
@@ -64,3 +66,17 @@ abbrev pub BringsAll : {R I O : Type 0} → roads.Ghosts R I O → link_in.Ghost
     → List (Seat I O) → List (Seat I O) → R → R → Type 0
 BringsAll r i o links links' old new = Passes (BringsAt r i o) (length links)
     (record { links = links; road = old }) (record { links = links'; road = new })
+
+-- The ends of all these connections are back with the roads.
+pub record AllAreBack {R I O : Type 0} (r : roads.Ghosts R I O) (i : link_in.Ghosts I) (o : link_out.Ghosts O)
+    (links : List (Seat I O)) (old new : R) : Type 0 where
+  pub left : List (Seat I O)
+  pub brings : BringsAll r i o links left old new
+  pub none_lost : list_any (λ link. is_lost (Some link)) left ≡ false
+
+-- The same, but for some that are lost, since the roads had no memory to take them back, here or before.
+pub record OthersAreBack {R I O : Type 0} (r : roads.Ghosts R I O) (i : link_in.Ghosts I) (o : link_out.Ghosts O)
+    (links : List (Seat I O)) (old new : R) : Type 0 where
+  pub left : List (Seat I O)
+  pub brings : BringsAll r i o links left old new
+  pub some_lost : list_any (λ link. is_lost (Some link)) left ≡ true

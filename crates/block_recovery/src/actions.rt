@@ -1,6 +1,6 @@
 //! What a primary does with the connections to all members.
 
-ghost use Rattle.std.specs.Prelude.{◌≡◌, ◌||◌, length, All, Option, slice_get};
+ghost use Rattle.std.specs.Prelude.{◌≡◌, ◌||◌, ◌≤◌, length, All, Option, slice_get};
 ghost use Rattle.hd_base.specs.Channels.{Plain};
 ghost use Rattle.hd_base.specs.Ends.{IsKnown};
 ghost use Rattle.block_recovery.specs.Dialling.{LinkIsKnown, KeepsKnown, SameEnd, KeepsEnds};
@@ -175,6 +175,7 @@ pub(crate) fn settle_link<R: Roads>(
     ensures settles { Settles R.Roads R.Inward.LinkIn R.Outward.LinkOut keeps link.old link.new roads.old roads.new }
     ensures known { LinkIsKnown (R.plain roads.new) link.new }
     ensures kept { KeepsKnown (R.plain roads.old) (R.plain roads.new) }
+    ensures faults { R.faults roads.old ≤ R.faults roads.new }
 {
     if keeps {
         return;
@@ -196,6 +197,7 @@ fn give_back<R: Roads>(
     ensures gives { GivesBack R.Roads R.Inward.LinkIn R.Outward.LinkOut end result roads.old roads.new }
     ensures known { LinkIsKnown (R.plain roads.new) result }
     ensures kept { KeepsKnown (R.plain roads.old) (R.plain roads.new) }
+    ensures faults { R.faults roads.old ≤ R.faults roads.new }
 {
     let mut end = end;
     end.outward.shut();
@@ -212,6 +214,7 @@ pub(crate) fn bring_back<R: Roads>(
     ensures brings { BringsBack R.Roads R.Inward.LinkIn R.Outward.LinkOut end result roads.old roads.new }
     ensures known { LinkIsKnown (R.plain roads.new) result }
     ensures kept { KeepsKnown (R.plain roads.old) (R.plain roads.new) }
+    ensures faults { R.faults roads.old ≤ R.faults roads.new }
 {
     let brought = roads.bring(alloc, end);
     place_after(brought)

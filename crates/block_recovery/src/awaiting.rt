@@ -1,9 +1,9 @@
 //! What a primary waits for, and on which connections something may come.
 
-ghost use Rattle.std.specs.Prelude.{◌≡◌, slice_get};
+ghost use Rattle.std.specs.Prelude.{◌≡◌, slice_get, if◌then◌else◌, Some, None};
 ghost use Rattle.block_recovery.specs.Awaiting.{waits_for, commits_next, hearing_conn};
 
-use crate::links::Seat;
+use crate::links::{Link, Seat};
 use crate::primary::Primary;
 use hd_base::{ConnId, LinkIn, LinkOut};
 
@@ -34,8 +34,28 @@ impl<I: LinkIn, O: LinkOut> Primary<I, O> {
         ensures { result ≡ hearing_conn (slice_get self.now.links.items place) }
     {
         match self.links.get(place) {
-            Some(Seat::Open(link)) if !link.over => Some(link.end.id),
-            _ => None,
+            Some(seat) => hearing_on(seat),
+            None => None,
         }
     }
+}
+
+/// The connection, if there is one, as long as its end wasn't taken.
+fn hearing_on<I: Drop, O: Drop>(seat: &Seat<I, O>) -> Option<ConnId>
+    ensures { result ≡ hearing_conn (Some seat.now) }
+{
+    match seat {
+        Seat::Open(link) => hearing_link(link),
+        Seat::Empty | Seat::Lost => None,
+    }
+}
+
+/// This connection, as long as its end wasn't taken.
+fn hearing_link<I: Drop, O: Drop>(link: &Link<I, O>) -> Option<ConnId>
+    ensures { result ≡ (if link.now.over then None else Some link.now.end.id) }
+{
+    if link.over {
+        return None;
+    }
+    Some(link.end.id)
 }

@@ -1,10 +1,19 @@
 //! The connections of a primary and the roads.
 
-ghost use Rattle.std.specs.Prelude.{◌≡◌, length, All};
+ghost use Rattle.std.specs.Prelude.{◌≡◌, length, All, IfErr, OnErr, OnOk};
+ghost use Rattle.hd_base.specs.declared.ends.RoadError.TheVariants as RoadError;
 ghost use Rattle.block_recovery.specs.declared.links.Seat.TheVariants as Seat;
 ghost use Rattle.link_pieces.specs.Roads.{names};
 ghost use Rattle.block_recovery.specs.Dialling.{LinkIsKnown, KeepsKnown};
-ghost use Rattle.block_recovery.specs.Exchanging.{Exchanges, ExchangesLink, ExchangesAll, BringsLink, BringsAll};
+ghost use Rattle.block_recovery.specs.Exchanging.{
+  Exchanges,
+  ExchangesLink,
+  ExchangesAll,
+  BringsLink,
+  BringsAll,
+  AllAreBack,
+  OthersAreBack,
+};
 
 use crate::actions::bring_back;
 use crate::links::{Link, Seat};
@@ -34,8 +43,9 @@ impl<I: LinkIn, O: LinkOut> Primary<I, O> {
         exchange_all(alloc, self.links.as_mut_slice(), roads, take)
     }
 
-    /// Brings the connections back to the roads that gave them. For which of them there was no memory, `has_lost` says.
-    pub fn retire<R: Roads<Inward = I, Outward = O>>(&mut self, alloc: Global, roads: &mut R)
+    /// Brings the connections back to the roads that gave them, and holds none then. For which of them there was no
+    /// memory, `has_lost` says.
+    pub fn bring_back<R: Roads<Inward = I, Outward = O>>(&mut self, alloc: Global, roads: &mut R)
         requires { All (LinkIsKnown (R.plain roads.old)) self.old.links.items }
         ensures brings { BringsAll R.Roads I.LinkIn O.LinkOut self.old.links.items self.new.links.items
             roads.old roads.new }
@@ -45,6 +55,26 @@ impl<I: LinkIn, O: LinkOut> Primary<I, O> {
         ensures known { All (LinkIsKnown (R.plain roads.new)) self.new.links.items }
     {
         bring_all(alloc, self.links.as_mut_slice(), roads);
+    }
+
+    /// Brings the connections back to the roads that gave them, and gives the primary up. Its only error is `Memory`,
+    /// exactly where an end is lost: the roads had no memory to take it back, here or before. The others are back then.
+    pub fn retire<R: Roads<Inward = I, Outward = O>>(
+        self,
+        alloc: Global,
+        roads: &mut R,
+    ) -> Result<(), RoadError>
+        requires { All (LinkIsKnown (R.plain roads.old)) self.links.items }
+        ensures brings { OnOk result (AllAreBack R.Roads I.LinkIn O.LinkOut self.links.items roads.old roads.new) }
+        ensures loses { OnErr result (OthersAreBack R.Roads I.LinkIn O.LinkOut self.links.items roads.old roads.new) }
+        ensures cause { IfErr result (λ error. error ≡ RoadError.Memory) }
+    {
+        let mut primary = self;
+        primary.bring_back(alloc, roads);
+        if primary.has_lost_any() {
+            return Err(RoadError::Memory);
+        }
+        Ok(())
     }
 }
 

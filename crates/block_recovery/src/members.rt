@@ -1,10 +1,9 @@
 //! What a primary takes from one of the members.
 
-ghost use Rattle.std.specs.Prelude.{◌≡◌, ◌≤◌, ◌<◌, length, All};
-ghost use Rattle.block_recovery.specs.Dialling.{LinkIsKnown, KeepsKnown, SameEnd};
-ghost use Rattle.block_recovery.specs.Members.{ListensTo, ListensOn, TakesLink, TakesAt, HearsMember, HearsSo};
-ghost use Rattle.block_recovery.specs.Steps.{Hears};
-ghost use Rattle.block_recovery.specs.declared.members.MemberHeard.TheVariants as MemberHeard;
+ghost use Rattle.std.specs.Prelude.{◌≡◌, ◌≤◌, ◌<◌, false, length, All};
+ghost use Rattle.block_recovery.specs.Actions.{SettlesPlace};
+ghost use Rattle.block_recovery.specs.Dialling.{LinkIsKnown, KeepsKnown, SameEnd, LinksStay};
+ghost use Rattle.block_recovery.specs.Members.{ListensTo, ListensOn, TakesLink, TakesAt, HearsBy, HearsMember, HearsSo};
 
 use crate::actions::settle_link;
 use crate::hearing::{TakenAnswer, ends_with};
@@ -129,58 +128,74 @@ fn hear_member<R: Roads>(
     requires { All (LinkIsKnown (R.plain roads.old)) links.old }
     ensures hears { HearsMember R.Roads R.Inward.LinkIn R.Outward.LinkOut place core.old core.new links.old links.new
         roads.old roads.new result }
-    ensures count { length links.new ≡ length links.old }
-    ensures known { All (LinkIsKnown (R.plain roads.new)) links.new }
-    ensures kept { KeepsKnown (R.plain roads.old) (R.plain roads.new) }
-    ensures faults { R.faults roads.old ≤ R.faults roads.new }
+    ensures stay { LinksStay R.Roads links.old links.new roads.old roads.new }
 {
     if place >= links.len() || place >= core.standings().len() {
         return MemberHeard::Nothing;
     }
-    match listen_on(&mut links[place]) {
+    let came = listen_on(&mut links[place]);
+    hear_came(alloc, core, came, links, roads, place)
+}
+
+/// Hears what came from the member at this place.
+fn hear_came<R: Roads>(
+    alloc: Global,
+    core: &mut Core,
+    came: Next<TakenAnswer>,
+    links: &mut [Seat<R::Inward, R::Outward>],
+    roads: &mut R,
+    place: usize,
+) -> MemberHeard
+    requires standing { place < length core.old.standings }
+    requires link { place < length links.old }
+    requires known { All (LinkIsKnown (R.plain roads.old)) links.old }
+    ensures hears { HearsBy R.Roads R.Inward.LinkIn R.Outward.LinkOut came place core.old core.new links.old links.new
+        roads.old roads.new result }
+    ensures stay { LinksStay R.Roads links.old links.new roads.old roads.new }
+{
+    match came {
         Next::Message(taken) => {
-            take(
+            hear(
                 alloc,
                 core,
                 place,
-                Heard::Answer(taken.answer),
+                &Heard::Answer(taken.answer),
                 links,
                 roads,
-            )
+            );
+            MemberHeard::Taken
         }
-        Next::Unreadable => take(alloc, core, place, Heard::Unreadable, links, roads),
-        Next::End => take(alloc, core, place, Heard::End, links, roads),
+        Next::Unreadable => {
+            hear(alloc, core, place, &Heard::Unreadable, links, roads);
+            MemberHeard::Taken
+        }
+        Next::End => {
+            hear(alloc, core, place, &Heard::End, links, roads);
+            MemberHeard::Taken
+        }
         Next::NotYet => MemberHeard::Nothing,
         Next::Failed => {
-            settle_link(alloc, false, &mut links[place], roads);
+            give_up_at(alloc, links, roads, place);
             MemberHeard::LinkFailed
         }
         Next::Memory => MemberHeard::Memory,
     }
 }
 
-/// Takes this from the member at this place.
-fn take<R: Roads>(
+/// Gives up the connection at this place.
+fn give_up_at<R: Roads>(
     alloc: Global,
-    core: &mut Core,
-    place: usize,
-    heard: Heard,
     links: &mut [Seat<R::Inward, R::Outward>],
     roads: &mut R,
-) -> MemberHeard
-    requires standing { place < length core.old.standings }
+    place: usize,
+)
     requires link { place < length links.old }
     requires known { All (LinkIsKnown (R.plain roads.old)) links.old }
-    ensures hears { Hears R.Roads R.Inward.LinkIn R.Outward.LinkOut core.old core.new place heard links.old links.new
+    ensures gives { SettlesPlace R.Roads R.Inward.LinkIn R.Outward.LinkOut false place links.old links.new
         roads.old roads.new }
-    ensures taken { result ≡ MemberHeard.Taken }
-    ensures count { length links.new ≡ length links.old }
-    ensures known { All (LinkIsKnown (R.plain roads.new)) links.new }
-    ensures kept { KeepsKnown (R.plain roads.old) (R.plain roads.new) }
-    ensures faults { R.faults roads.old ≤ R.faults roads.new }
+    ensures stay { LinksStay R.Roads links.old links.new roads.old roads.new }
 {
-    hear(alloc, core, place, &heard, links, roads);
-    MemberHeard::Taken
+    settle_link(alloc, false, &mut links[place], roads);
 }
 
 /// What comes on a connection, if there is one.

@@ -3,7 +3,7 @@
 ghost use Rattle.std.specs.List.{list_any};
 ghost use Rattle.std.specs.Prelude.{◌≡◌, ◌<◌, length, All, IfOk, slice_get, Option, Some};
 ghost use Rattle.hd_base.specs.Channels.{Plain};
-ghost use Rattle.block_recovery.specs.Dialling.{LinkIsKnown, is_lost};
+ghost use Rattle.block_recovery.specs.Dialling.{LinkIsKnown, LinksStay, is_lost};
 ghost use Rattle.block_recovery.specs.Driving.{Steps};
 ghost use Rattle.block_recovery.specs.Steps.{
   IsNew,
@@ -187,8 +187,7 @@ pub(crate) fn hear<R: Roads>(
     requires known { All (LinkIsKnown (R.plain roads.old)) links.old }
     ensures hears { Hears R.Roads R.Inward.LinkIn R.Outward.LinkOut core.old core.new place heard.now
         links.old links.new roads.old roads.new }
-    ensures count { length links.new ≡ length links.old }
-    ensures known { All (LinkIsKnown (R.plain roads.new)) links.new }
+    ensures stay { LinksStay R.Roads links.old links.new roads.old roads.new }
 {
     let shuts = core.hear(place, heard);
     settle_link(alloc, !shuts, &mut links[place], roads);

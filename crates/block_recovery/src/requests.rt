@@ -29,7 +29,22 @@ pub(crate) fn send_request<I: Drop, O: LinkOut>(
     ensures ends { KeepsEnds links.old links.new }
 {
     let op = Op::Recovery(core.request(alloc, kind, new_length)?);
-    match request_text(alloc, &op)? {
+    send_op(alloc, &op, members, chosen, links)
+}
+
+/// Sends a request to each of the chosen members.
+fn send_op<I: Drop, O: LinkOut>(
+    alloc: Global,
+    op: &Op,
+    members: &Members,
+    chosen: &Members,
+    links: &mut [Seat<I, O>],
+) -> Result<(), AllocError>
+    ensures sends { SendsRequest O.LinkOut op.now members.now chosen.now links.old links.new result }
+    ensures count { length links.new ≡ length links.old }
+    ensures ends { KeepsEnds links.old links.new }
+{
+    match request_text(alloc, op)? {
         Some(text) => send_all(alloc, &text, members, chosen, links),
         None => Ok(()),
     }

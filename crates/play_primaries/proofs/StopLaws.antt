@@ -14,7 +14,7 @@ use Rattle.primary_events.specs.BlockRecovery.Seat.{Seat}
 use Rattle.primary_events.specs.BlockRecovery.Seat.TheVariants as seat
 use Rattle.primary_events.specs.BlockRecovery.Primary as running
 use Rattle.primary_events.specs.BlockRecovery.Dialling.{is_lost}
-use Rattle.primary_events.specs.BlockRecovery.Exchanging.{BringsAll}
+use Rattle.primary_events.specs.BlockRecovery.Exchanging.{BringsAll, AllAreBack}
 use Rattle.road_traffic.specs.Laws.{BringsShow}
 use Rattle.road_traffic.specs.Showing.{Net}
 use Rattle.primary_events.specs.World.Event.TheVariants as event
@@ -38,7 +38,7 @@ use Rattle.play_primaries.specs.declared.clients.PrimaryState.{PrimaryState}
 use Rattle.play_primaries.specs.declared.clients.PrimaryState.TheVariants as state
 use Rattle.play_primaries.specs.Clients.{LeadsOn, StateShows}
 use Rattle.play_primaries.specs.Owning.{led_conns}
-use Rattle.play_primaries.specs.Stopping.{EndsAreBrought, NodeHasStopped, StopLeft, StopShows}
+use Rattle.play_primaries.specs.Stopping.{NodeHasStopped, StopLeft, StopShows}
 use Rattle.play_primaries.proofs.BringLaws.{IsConnOf, AllBrought, all_brought}
 
 -- it doesn't lead
@@ -207,7 +207,7 @@ module _ {R I O : Type 0} (r : roads.Ghosts R I O) (i : link_in.Ghosts I) (o : l
       subst (λ (s : PrimaryState I O). StopShows r i o old (record { recovery = record old.recovery { may_begin = false }; state = s }) road road) (sym past)
       (stop_quiet old state.Stopped road is (λ p e. not_led state.Stopped p tt e))
 
-  pub stop_brought : BringsShow R I O r i o → IdleFlushesAreNets → NetsStaySane → EndsElsewhereStay i o → (old : PrimaryClient I O) (st : PrimaryState I O) (p : running.Primary I O) (road road' : R) (z : Result (Unit {0}) AllocError) → st ≡ state.Stopped → old.state ≡ state.Leads p → OnOk z (EndsAreBrought r i o p.links.items road road')
+  pub stop_brought : BringsShow R I O r i o → IdleFlushesAreNets → NetsStaySane → EndsElsewhereStay i o → (old : PrimaryClient I O) (st : PrimaryState I O) (p : running.Primary I O) (road road' : R) (z : Result (Unit {0}) AllocError) → st ≡ state.Stopped → old.state ≡ state.Leads p → OnOk z (AllAreBack r i o p.links.items road road')
       → OnOk z (StopShows r i o old (record { recovery = record old.recovery { may_begin = false }; state = st }) road road')
   stop_brought brings idle sane_stay elsewhere old st p road road' (Ok u) past is k =
       subst (λ (s : PrimaryState I O). StopShows r i o old (record { recovery = record old.recovery { may_begin = false }; state = s }) road road') (sym past)

@@ -1,13 +1,9 @@
 -- The node of a primary has stopped, and its ends are brought back.
-use Rattle.std.specs.Prelude.{◌≡◌, ℕ, true, false, List, Some}
-use Rattle.std.specs.List.{list_any}
+use Rattle.std.specs.Prelude.{◌≡◌, ℕ, true, false}
 use Rattle.hd_base.specs.declared.ends.Conn.{Conn}
 use Rattle.hd_base.specs.declared.links.LinkIn as link_in
 use Rattle.hd_base.specs.declared.links.LinkOut as link_out
 use Rattle.hd_base.specs.declared.roads.Roads as roads
-use Rattle.primary_events.specs.BlockRecovery.Seat.{Seat}
-use Rattle.primary_events.specs.BlockRecovery.Dialling.{is_lost}
-use Rattle.primary_events.specs.BlockRecovery.Exchanging.{BringsAll}
 use Rattle.road_traffic.specs.Showing.{Net}
 use Rattle.primary_events.specs.World.Event.TheVariants as event
 use Rattle.primary_events.specs.World.Events.{happens}
@@ -20,13 +16,6 @@ use Rattle.primary_events.specs.Leading.{AllOthersStay}
 use Rattle.play_primaries.specs.declared.clients.PrimaryClient.{PrimaryClient}
 use Rattle.play_primaries.specs.Clients.{PrimaryClientShows, PrimaryClientStands}
 use Rattle.play_primaries.specs.Owning.{led_conns}
-
--- The ends of all these connections were brought back.
-pub record EndsAreBrought {R I O : Type 0} (r : roads.Ghosts R I O) (i : link_in.Ghosts I) (o : link_out.Ghosts O)
-    (links : List (Seat I O)) (road road' : R) : Type 0 where
-  pub left : List (Seat I O)
-  pub brings : BringsAll r i o links left road road'
-  pub none_lost : list_any (λ link. is_lost (Some link)) left ≡ false
 
 -- Each upper end of a connection that this primary dialled is one of the world after.
 abbrev pub PrimaryEndsStay : {I O : Type 0} → link_in.Ghosts I → link_out.Ghosts O → World → Net → World → Net → ℕ →

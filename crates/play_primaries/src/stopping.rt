@@ -2,10 +2,11 @@
 
 ghost use Rattle.std.specs.Prelude.{◌≡◌, false, All, OnOk};
 ghost use Rattle.primary_events.specs.BlockRecovery.Dialling.{LinkIsKnown};
+ghost use Rattle.primary_events.specs.BlockRecovery.Exchanging.{AllAreBack};
 ghost use Rattle.primary_events.specs.MemberEvents.Roads.{RoadsPass};
 ghost use Rattle.play_primaries.specs.Clients.{PrimaryIsReady};
 ghost use Rattle.play_primaries.specs.Passing.{PrimaryPasses};
-ghost use Rattle.play_primaries.specs.Stopping.{EndsAreBrought, StopShows};
+ghost use Rattle.play_primaries.specs.Stopping.{StopShows};
 
 use crate::clients::{PrimaryClient, PrimaryState};
 use hd_base::{LinkIn, LinkOut, Roads};
@@ -55,14 +56,12 @@ fn brought<I: LinkIn, O: LinkOut, R: Roads<Inward = I, Outward = O>>(
     primary: Primary<I, O>,
 ) -> Result<(), AllocError>
     requires { All (LinkIsKnown (R.plain roads.old)) primary.links.items }
-    ensures brings { OnOk result (EndsAreBrought R.Roads I.LinkIn O.LinkOut primary.links.items
+    ensures brings { OnOk result (AllAreBack R.Roads I.LinkIn O.LinkOut primary.links.items
         roads.old roads.new) }
     ensures pass { RoadsPass R.Roads roads.old roads.new }
 {
-    let mut primary = primary;
-    primary.retire(alloc, roads);
-    if primary.has_lost_any() {
-        return Err(AllocError);
+    match primary.retire(alloc, roads) {
+        Ok(()) => Ok(()),
+        Err(_) => Err(AllocError),
     }
-    Ok(())
 }

@@ -75,7 +75,7 @@ fn retired<I: LinkIn, O: LinkOut, R: Roads<Inward = I, Outward = O>>(
     ensures pass { RoadsPass R.Roads roads.old roads.new }
     ensures known { All (LinkIsKnown (R.plain roads.new)) primary.new.links.items }
 {
-    primary.retire(alloc, roads);
+    primary.bring_back(alloc, roads);
     if primary.has_lost_any() {
         PrimaryFault::Memory
     } else {

@@ -1,5 +1,6 @@
 -- Steps that follow one another, until one ends the recovery.
-use Rattle.std.proofs.Common.{inr}
+use Rattle.std.proofs.Common.{inr, ap, ◌∙◌}
+use Rattle.block_recovery.specs.Driving.{ended_as}
 use Rattle.block_recovery.proofs.DrivingLaws.{comes_nowhere, comes_on}
 use Rattle.block_recovery.proofs.driving.recover.Goals as goal
 
@@ -22,7 +23,9 @@ returns-in-Ended g c = inr (record {
   before = record { primary = c.steps.primary; office = c.steps.office; road = c.steps.roads };
   is_new = c.steps.invariant.is_new;
   comes = c.steps.invariant.comes;
+  end = c.in-Ended.recovered;
   ends = rw c.in-Ended.is at c.step.ensures.steps;
+  is = c.ended_as.ensures ∙ ap (ended_as c.in-Ended.recovered) c.has_lost_any.ensures;
 })
 
 pub steps-preserved : goal.steps-preserved
