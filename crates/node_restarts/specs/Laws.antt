@@ -20,13 +20,13 @@ NewBooksAreUnbroken {D} d = (x : BookState D) (block : BlockId) → IsNew x bloc
     IfSome (d.files x.drawer) (λ m. m ≡ no_files) → IsUnbroken d x
 
 -- What the restart rule asks of a book and an event of it: all numbers have 64 bits, and the block of an absent replica
--- has no files.
+-- has no files where the event makes a new one, and else no pair.
 pub record IsRuled {D : Type 0} (d : files.Ghosts D) (x : BookState D) (e : ReplicaEvent) : Type 0 where
   pub is_book : IsBookOf d x
   pub with_bytes : IsWithBytes e
   pub numbers : HasNumbers (replica_of x)
   pub later : HasNumbers (row (replica_of x) e)
-  pub no_strays : HasNoStrays (d.files x.drawer) (replica_of x).known.info
+  pub no_strays : HasNoStrays (d.files x.drawer) (replica_of x) e
 
 -- A book in whose event a call on files failed broke in it.
 abbrev pub FailedBooksAreBroken : {D : Type 0} → files.Ghosts D → Type 0

@@ -44,9 +44,10 @@ use Rattle.restart_scan.specs.declared.found.Seen.{Seen}
 use Rattle.restart_scan.specs.declared.found.Scanned.{Scanned}
 use Rattle.restart_scan.specs.Blocks.{ScansPair, ScansOthers, state_of as state_of_pair}
 use Rattle.restart_scan.specs.Laws.{FindsBlock, finds, finds_none, HasNumbers, IsTransfer}
-use Rattle.restart_scan.specs.Restarts.{Shows, HasNoStrays, FindsAllowed, RestartRule, FailedCallsAreFound}
+use Rattle.restart_scan.specs.Pairs.{Pair, IsPair}
+use Rattle.restart_scan.specs.Restarts.{Shows, NoneInTheWay, FindsAllowed, RestartRule, FailedCallsAreFound}
 use Rattle.restart_scan.proofs.FrontLemmas.{has_front}
-use Rattle.restart_scan.proofs.WholeLemmas.{whole_replicas_are_found}
+use Rattle.restart_scan.proofs.WholeLemmas.{whole_replicas_are_found, none_there}
 use Rattle.restart_scan.proofs.StopLemmas.{stopped_settlings_are_found, stopped_packets_are_found, stopped_transfers_are_found, temporary_settling_found, temporary_packet_found, temporary_folder}
 use Rattle.restart_scan.proofs.CreateLemmas.{stopped_creates_are_found}
 use Rattle.restart_scan.proofs.EventLemmas.{Unrecovered, Becomes, Turns, TurnsTo, turns, replayed_unrecovered}
@@ -258,8 +259,13 @@ finds_allowed book e m allowed left x (inr s) = finds_others book e m left x all
 
 -- ---- the files of a book
 
+-- of an absent replica there are no files
+abbrev HasNone : Option FileMap → Option ReplicaInfo → Type 0
+HasNone files None = IfSome files (λ m. m ≡ no_files)
+HasNone files (Some h) = Unit {0}
+
 -- where the files of a replica that isn't broken lie, absent or not
-files_placed : (o : Option FileMap) (block : ℕ) (info : Option ReplicaInfo) (is_broken : Bool) (bytes : List ℕ) → is_broken ≡ false → HoldsInfo o block info is_broken bytes → HasNoStrays o info
+files_placed : (o : Option FileMap) (block : ℕ) (info : Option ReplicaInfo) (is_broken : Bool) (bytes : List ℕ) → is_broken ≡ false → HoldsInfo o block info is_broken bytes → HasNone o info
     → IfSome o (λ m. m ≡ files_of block (placed_under info bytes))
 files_placed o block None is_broken bytes whole holds none = none
 files_placed o block (Some h) true bytes whole holds none = absurd (true_false whole)
@@ -273,7 +279,7 @@ no_names (name ∷ names) m none are = absurd (no_file (m name) (ap (λ (f : Fil
   no_file (Some x) e h = cc
 
 -- no file is removed first
-no_strays : (m : FileMap) (info next : Option ReplicaInfo) (strays : List (List ℕ)) → HasNoStrays (Some m) info → AreStrays (Some m) info next strays → strays ≡ []
+no_strays : (m : FileMap) (info next : Option ReplicaInfo) (strays : List (List ℕ)) → HasNone (Some m) info → AreStrays (Some m) info next strays → strays ≡ []
 no_strays m None (Some k) strays none are = no_names strays m none are
 no_strays m None None strays none are = are
 no_strays m (Some h) next strays none are = are
@@ -290,7 +296,7 @@ module _ {F : Type 0} (f : files.Ghosts F) (book : BookState F) (e : ReplicaEven
       found_stopped (replica_of book) e i n found is_book.held.full with_bytes numbers later (replayed_unrecovered book.block book.history)
       (subst (λ q. FindsBlock (replica_of book).known.block q found) there (subst (λ b. FindsBlock b m found) (sym is_book.held.of_block) is)))
 
-  by_files : (o : Option FileMap) (new : F) → f.files book.drawer ≡ o → HasNoStrays o (replica_of book).known.info → IfSome o (λ m. m ≡ files_of (replica_of book).known.block.0 (placement_of (replica_of book)))
+  by_files : (o : Option FileMap) (new : F) → f.files book.drawer ≡ o → HasNone o (replica_of book).known.info → IfSome o (λ m. m ≡ files_of (replica_of book).known.block.0 (placement_of (replica_of book)))
       → StopsEvent f book.drawer new (replica_of book) e → IfSome (f.files new) (FindsAllowed book e)
   by_files None new at none placed_so (before_all same) = subst (λ q. IfSome q (FindsAllowed book e)) (sym (same.files ∙ at)) tt
   by_files None new at none placed_so (amid strays are stops) =
@@ -312,11 +318,69 @@ module _ {F : Type 0} (f : files.Ghosts F) (book : BookState F) (e : ReplicaEven
       subst (λ q. IfSome q (FindsAllowed book e)) (sym (stops.2.files ∙ ap (option_map (run (stopped i n (event_calls r e strays)))) at))
       (allowed_there (run (stopped i n (event_calls r e strays)) m) i n left)
 
+-- ---- a replica that is absent, and stays so
+
+none_taken : (e : ReplicaEvent) (o : Option ReplicaInfo) (bytes : List ℕ) → taken_calls e o None bytes ≡ []
+none_taken e None bytes = refl
+none_taken e (Some h) bytes = refl
+
+none_planned : (e : ReplicaEvent) (c : ReplicaRecord) (bytes : List ℕ) (out : Outcome) → (record_after c out).info ≡ None → outcome_calls e c.info bytes out ≡ []
+none_planned e c bytes (Err x) none = refl
+none_planned e c bytes (Ok t) none = ap (λ o. taken_calls e c.info o bytes) none ∙ none_taken e c.info bytes
+
+no_pair_found : (block : BlockId) (m : FileMap) (found : Option Found) → ((p : Pair) → IsPair block m p → ⊥) → FindsBlock block m found → found ≡ None
+no_pair_found block m found none (finds p len is kept) = absurd (none p is)
+no_pair_found block m found none (finds_none is) = refl
+
+module _ {F : Type 0} (f : files.Ghosts F) (book : BookState F) (e : ReplicaEvent) (is_book : IsBookOf f book) (with_bytes : IsWithBytes e) (numbers : HasNumbers (replica_of book))
+    (later : HasNumbers (row (replica_of book) e)) (absent : (replica_of book).known.info ≡ None) (still : (row (replica_of book) e).known.info ≡ None) where
+  no_plan : plan (replica_of book) e ≡ []
+  unfolding transition
+  no_plan = let r = replica_of book in none_planned e r.known r.bytes (transition r.known (event_at r e)) still
+
+  none_left : files_of (replica_of book).known.block.0 (all_placed (block_calls.stopped 0 0 (plan (replica_of book) e)) (placement_of (replica_of book))) ≡ no_files
+  none_left =
+      let r = replica_of book in
+      ap (files_of r.known.block.0) (nothing_done (plan r e) (placement_of r)) ∙ ap (λ o. files_of r.known.block.0 (placed_under o r.bytes)) absent
+
+  none_allowed : MayFind (replica_of book) (Some e) None
+  none_allowed =
+      let r = replica_of book in
+      found_stopped r e 0 0 None is_book.held.full with_bytes numbers later (replayed_unrecovered book.block book.history)
+      (subst (λ m. FindsBlock r.known.block m None) (sym none_left) (none_there r.known.block))
+
+  absent_there : (m : FileMap) → ((p : Pair) → IsPair (replica_of book).known.block m p → ⊥) → FindsAllowed book e m
+  absent_there m none = finds_allowed book e m (λ found is.
+      subst (λ o. MayFind (replica_of book) (Some e) o) (sym (no_pair_found (replica_of book).known.block m found none (subst (λ b. FindsBlock b m found) (sym is_book.held.of_block) is))) none_allowed)
+
+  absent_files : (o : Option FileMap) (new : F) → f.files book.drawer ≡ o → IfSome o (λ m. (p : Pair) → IsPair (replica_of book).known.block m p → ⊥) → StopsEvent f book.drawer new (replica_of book) e
+      → IfSome (f.files new) (FindsAllowed book e)
+  absent_files None new at none (before_all same) = subst (λ q. IfSome q (FindsAllowed book e)) (sym (same.files ∙ at)) tt
+  absent_files None new at none (amid strays are stops) =
+      subst (λ q. IfSome q (FindsAllowed book e)) (sym (stops.2.files ∙ ap (option_map (run (stopped stops.0 stops.1 (event_calls (replica_of book) e strays)))) at)) tt
+  absent_files (Some m) new at none (before_all same) = subst (λ q. IfSome q (FindsAllowed book e)) (sym (same.files ∙ at)) (absent_there m none)
+  absent_files (Some m) new at none (amid strays are stops) =
+      let r = replica_of book in
+      let nothing : strays ≡ [] = subst (λ q. AreStrays (f.files book.drawer) None q strays) still (subst (λ o. AreStrays (f.files book.drawer) o (row r e).known.info strays) absent are) in
+      let uncalled : event_calls r e strays ≡ [] = ap (λ l. remove_list l ++ calls_of r.known.block.0 (plan r e) (placement_of r)) nothing ∙ ap (λ l. calls_of r.known.block.0 l (placement_of r)) no_plan in
+      subst (λ q. IfSome q (FindsAllowed book e))
+      (sym (stops.2.files ∙ ap (option_map (run (stopped stops.0 stops.1 (event_calls r e strays)))) at ∙ ap (λ l. Some (run (stopped stops.0 stops.1 l) m)) uncalled))
+      (absent_there m none)
+
 pub restart_rule : {F : Type 0} (f : files.Ghosts F) → RestartRule f
-restart_rule f book new e is_book whole with_bytes numbers later none stops =
-    let r = replica_of book in
-    by_files f book e is_book whole with_bytes numbers later (f.files book.drawer) new refl none
-    (files_placed (f.files book.drawer) r.known.block.0 r.known.info r.known.is_broken r.bytes whole is_book.held.holds none) stops
+restart_rule f book new e is_book whole with_bytes numbers later none stops = by r.known.info (row r e).known.info refl refl none where
+  r : FullReplica
+  r = replica_of book
+
+  by_placed : HasNone (f.files book.drawer) r.known.info → IfSome (f.files new) (FindsAllowed book e)
+  by_placed none =
+      by_files f book e is_book whole with_bytes numbers later (f.files book.drawer) new refl none
+      (files_placed (f.files book.drawer) r.known.block.0 r.known.info r.known.is_broken r.bytes whole is_book.held.holds none) stops
+
+  by : (o q : Option ReplicaInfo) → r.known.info ≡ o → (row r e).known.info ≡ q → NoneInTheWay r.known.block (f.files book.drawer) o q → IfSome (f.files new) (FindsAllowed book e)
+  by None None absent still none = absent_files f book e is_book with_bytes numbers later absent still (f.files book.drawer) new refl none stops
+  by None (Some k) absent becomes none = by_placed (subst (HasNone (f.files book.drawer)) (sym absent) none)
+  by (Some h) q is becomes none = by_placed (subst (HasNone (f.files book.drawer)) (sym is) tt)
 
 pub failed_calls_are_found : {F : Type 0} (f : files.Ghosts F) → FailedCallsAreFound f
 failed_calls_are_found f old new e receipt is_book with_bytes numbers later none ends =

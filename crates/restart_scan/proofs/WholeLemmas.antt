@@ -364,6 +364,9 @@ by_state state.Temporary block stamp r bytes found fits stamp_fits size f = temp
 nothing_left : without_temporary no_files ≡ no_files
 nothing_left = λ i q. same_either (is_temporary q) (let o : Option (List ℕ) = None in o) i
 
+pub none_there : (block : BlockId) → FindsBlock block no_files None
+none_there block = finds_none (nothing_there block no_files nothing_left)
+
 pub nothing_found : (block : BlockId) (found : Option Found) → FindsBlock block no_files found → found ≡ None
 nothing_found block found (finds_none none) = refl
 nothing_found block found (finds p len is kept) = absurd (nothing_there block no_files nothing_left p is)

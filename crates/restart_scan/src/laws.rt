@@ -49,7 +49,8 @@ pub fn further_scans_find_the_same()
 {}
 
 /// After a stop at any file call of any event of a book, or a failure of it, with any part of that call done, a scan
-/// finds what the model of replicas allows. An absent replica's block is to have no files before.
+/// finds what the model of replicas allows. Where an absent replica is made, its block is to have no files before; where
+/// it stays absent, no pair, as none has that a scan found so.
 pub fn restart_rule<F: Files>()
     ensures stopped { RestartRule F.Files }
     ensures failed { FailedCallsAreFound F.Files }

@@ -1,5 +1,6 @@
 //! What scans find where the power was lost after an hsync.
 
+use crate::helpers::{bytes_between, fill};
 use bytes::Bytes;
 use fault_ports::LossyFiles;
 use hd_base::{BlockId, ConnId, FileError, Files, Shelf, Stamp, SumRule};
@@ -55,10 +56,7 @@ const PARTS: [Part; 3] = [
 
 /// The packet.
 fn packet(alloc: Global, part: &Part) -> Result<Packet, AllocError> {
-    let mut body = Vec::new(alloc);
-    for place in part.from..part.to {
-        body.push((place % 251) as u8)?;
-    }
+    let body = bytes_between(alloc, part.from, part.to)?;
     Ok(Packet {
         offset: i64::try_from(part.from).unwrap_or(0),
         seqno: part.seqno,
@@ -98,9 +96,7 @@ fn put_all<S: Shelf>(
     for name in files.names(alloc)?.as_slice() {
         let mut bytes = vec![in alloc; 0; files.length(name)? as usize]?;
         files.read_at(name, 0, &mut bytes)?;
-        drawer.room(alloc, name, bytes.len() as u64)?;
-        drawer.make(name)?;
-        drawer.write_at(name, 0, &bytes)?;
+        fill(alloc, &mut drawer, name, &bytes)?;
     }
     shelf.give_back(BLOCK, drawer);
     Ok(())
