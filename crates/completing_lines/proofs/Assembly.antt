@@ -6,6 +6,7 @@ use Rattle.std.proofs.lemmas.List.{append_assoc, append-nil}
 use Rattle.hd_base.specs.Bytes.{IsBytes}
 use Rattle.hd_base.specs.SumRules.{Rule, IsChunkSize}
 use Rattle.hd_base.specs.declared.numbers.BlockId.{BlockId}
+use Rattle.hd_base.specs.declared.numbers.NodeId.{NodeId}
 use Rattle.script_lang.specs.declared.instructions.Instruction.{Instruction}
 use Rattle.script_lang.specs.declared.instructions.Instruction.TheVariants as says
 use Rattle.script_lang.specs.declared.instructions.ScriptLine.{ScriptLine}
@@ -17,15 +18,16 @@ use Rattle.writer_core.specs.declared.intake.TheConstants.{MAX_COMMANDS}
 use Rattle.writer_core.specs.Commands.{queued_bytes}
 use Rattle.completing_writers.specs.World.Worlds.{add, put}
 use Rattle.completing_writers.proofs.WorldOrders.Kept.{eqb-itself}
+use Rattle.play_model.specs.declared.asks.ReadAsk.{ReadAsk}
 use Rattle.play_model.specs.declared.dues.Due.{Due}
 use Rattle.play_model.specs.declared.dues.Due.TheVariants as due
-use Rattle.play_model.specs.States.{PlayState, world_of, opened, ordered, ruled}
+use Rattle.play_model.specs.States.{PlayState, world_of, opened, ordered, ruled, asked}
+use Rattle.play_model.specs.Asks.{ask_at}
 use Rattle.play_model.specs.Dues.{is_due, dues, after_due}
 use Rattle.play_model.specs.Draws.{advanced, draws, Settles}
 use Rattle.play_model.specs.Lines.{blocks_of, step_due, PlaysLine, PlaysLines, Plays}
 use Rattle.play_lines.specs.PlayScripts.Fitting.{LineFits, LinesFit, begun}
 use Rattle.play_lines.specs.PlayScripts.Failures.{is_failure, HaveNoFailures}
-use Rattle.play_lines.specs.PlayScripts.Reads.{is_read, HaveNoReads}
 use Rattle.play_lines.specs.Lines.{StandIs, GivenIs}
 use Rattle.play_lines.specs.Showing.{given_in}
 use Rattle.play_lines.proofs.Commands.{same_stand}
@@ -35,8 +37,8 @@ use Rattle.completing_writers.specs.PlayCompleteness.Played.{Played, BlockPlayed
 use Rattle.completing_writers.proofs.PlayCompleteness.Beginning.{opened-on, join-on}
 use Rattle.completing_writers.proofs.PlayCompleteness.Flowing.{get-front}
 use Rattle.completing_writers.proofs.PlayCompleteness.Folding.{advanced-keeps, draws-keep, stepped-keeps}
-use Rattle.completing_writers.proofs.PlayCompleteness.Plays.{Among, none-asked, none-recovered, step-asked}
-use Rattle.completing_writers.proofs.PlayCompleteness.Keeping.{conns-keep}
+use Rattle.completing_writers.proofs.PlayCompleteness.Plays.{Among, none-recovered, step-asked}
+use Rattle.completing_writers.proofs.PlayCompleteness.Keeping.{conns-keep, readers-keep}
 use Rattle.completing_writers.proofs.PlayCompleteness.OwnFacts.{own-keeps}
 use Rattle.completing_writers.proofs.PlayCompleteness.ScriptBlocks.{commands-of-blocks}
 use Rattle.completing_writers.proofs.PlayCompleteness.Whole.{settled-complete}
@@ -52,7 +54,7 @@ record Behind (before : Before) (lines : ℕ) (commands : ℕ → List Command) 
 
 -- the same commands of each block
 played-as : (p : PlayState) (f g : ℕ → List Command) → ((b : ℕ) → f b ≡ g b) → Played p f → Played p g
-played-as p f g same h = record { asks = h.asks; recoveries = h.recoveries; unarmed = h.unarmed; plain = h.plain; quiet = h.quiet; peaceful = h.peaceful; links = h.links; writers = h.writers; blocks = λ b. subst (λ (cs : List Command). BlockPlayed (world_of p) b (p.queues b) cs) (same b) (h.blocks b) }
+played-as p f g same h = record { recoveries = h.recoveries; unarmed = h.unarmed; plain = h.plain; quiet = h.quiet; peaceful = h.peaceful; links = h.links; writers = h.writers; blocks = λ b. subst (λ (cs : List Command). BlockPlayed (world_of p) b (p.queues b) cs) (same b) (h.blocks b) }
 
 on-as : (p : PlayState) (f g : ℕ → List Command) → ((b : ℕ) → f b ≡ g b) → PlayedOn p f → PlayedOn p g
 on-as p f g same h = record { played = played-as p f g same h.played; names = h.names; ruled = h.ruled }
@@ -150,7 +152,7 @@ module _ (before : Before) (lines : ℕ) (p : PlayState) (commands : ℕ → Lis
       go false e = subst (λ (y : Bool). IsChunkSize (if y then rule else p.rules b).chunk) (sym e) (h.follows.chunks b)
 
   ruled-played : Played (ruled p at.0 rule) commands
-  ruled-played = record { asks = h.on.played.asks; recoveries = h.on.played.recoveries; unarmed = h.on.played.unarmed; plain = h.on.played.plain; quiet = h.on.played.quiet; peaceful = h.on.played.peaceful; links = h.on.played.links; writers = h.on.played.writers; blocks = h.on.played.blocks }
+  ruled-played = record { recoveries = h.on.played.recoveries; unarmed = h.on.played.unarmed; plain = h.on.played.plain; quiet = h.on.played.quiet; peaceful = h.on.played.peaceful; links = h.on.played.links; writers = h.on.played.writers; blocks = h.on.played.blocks }
 
   behind-rule : Behind Next (suc lines) commands (ruled p at.0 rule)
   behind-rule = record {
@@ -165,6 +167,30 @@ module _ (before : Before) (lines : ℕ) (p : PlayState) (commands : ℕ → Lis
     };
   }
 
+-- a line that asks to read
+module _ (before : Before) (lines : ℕ) (p : PlayState) (commands : ℕ → List Command) (at : BlockId) (node : NodeId) (offset count : ℕ) (ask : ReadAsk) (h : Behind before lines commands p) where
+  abbrev Then : Before
+  Then = after before (says.Read at node offset count)
+
+  given-then : (b : ℕ) (j : Intake) → GivenIs before lines b j → GivenIs Then (suc lines) b j
+  given-then b j g = record { stand = same_stand before Then b j.stand refl g.stand; bytes = g.bytes; commands = omega (arith, g.commands) }
+
+  asked-played : Played (asked p ask) commands
+  asked-played = record { recoveries = h.on.played.recoveries; unarmed = h.on.played.unarmed; plain = h.on.played.plain; quiet = h.on.played.quiet; peaceful = h.on.played.peaceful; links = h.on.played.links; writers = h.on.played.writers; blocks = h.on.played.blocks }
+
+  behind-ask : Behind Then (suc lines) commands (asked p ask)
+  behind-ask = record {
+    on = record { played = asked-played; names = record { few = h.on.names.few; named = h.on.names.named }; ruled = h.on.ruled };
+    follows = record {
+      well = record { played = asked-played; unused = h.follows.well.unused; few = h.follows.well.few; fit = h.follows.well.fit };
+      nodes = h.follows.nodes;
+      written = h.follows.written;
+      chunks = h.follows.chunks;
+      given = λ b. given-then b (given_in p b) (h.follows.given b);
+      bytes = h.follows.bytes;
+    };
+  }
+
 -- WHAT HAPPENS BETWEEN LINES
 
 module _ (before : Before) (lines : ℕ) (commands : ℕ → List Command) where
@@ -173,7 +199,9 @@ module _ (before : Before) (lines : ℕ) (commands : ℕ → List Command) where
       let facts = own-keeps p commands b h.on.played h.on.names h.on.ruled in
       let next = own-steps-follow before lines p commands b h.follows is in
       record { on = record { played = next.well.played; names = facts.0; ruled = facts.1 }; follows = next }
-  due-behind p (due.Reader ask) h is asked = none-asked p.asks ask h.on.played.asks asked.0
+  due-behind p (due.Reader ask) h is asked =
+      let next = readers-keep p commands ask h.on in
+      record { on = next; follows = others-follow before lines p commands (due.Reader ask) refl h.follows next.played }
   due-behind p (due.Primary r) h is asked = none-recovered p.recoveries r h.on.played.recoveries asked.1
   due-behind p (due.Down c) h is asked =
       let next = conns-keep p commands (due.Down c) h.on is tt in
@@ -275,57 +303,61 @@ module _ (blocks : List ℕ) (before : Before) (lines : ℕ) (commands : ℕ →
       behind-as (after before i) (suc lines) (ordered p at.0 c) (add commands at.0 (c ∷ [])) (With commands i) all
       (record { on = join-on p commands at.0 c h.on wrote (command-fits before lines i at.0 c p commands h.follows few fits here); follows = next })
 
-  line-behind : (number : ℕ) (i : Instruction) → is_failure i ≡ false → is_read i ≡ false → LineFits before i → ((b : ℕ) → KeepsMembers (With commands i b)) → (old new : PlayState) → PlaysLine blocks number i old new → Behind before lines commands old → Behind (after before i) (suc lines) (With commands i) new
-  line-behind number (says.Nodes count) u r fits k old new is h = absurd fits.words
-  line-behind number (says.Seed seed) u r fits k old new is h = absurd fits.words
-  line-behind number (says.Sums at rule) u r fits k old new is h =
+  line-behind : (number : ℕ) (i : Instruction) → is_failure i ≡ false → LineFits before i → ((b : ℕ) → KeepsMembers (With commands i b)) → (old new : PlayState) → PlaysLine blocks number i old new → Behind before lines commands old → Behind (after before i) (suc lines) (With commands i) new
+  line-behind number (says.Nodes count) u fits k old new is h = absurd fits.words
+  line-behind number (says.Seed seed) u fits k old new is h = absurd fits.words
+  line-behind number (says.Sums at rule) u fits k old new is h =
       subst (Behind (after before (says.Sums at rule)) (suc lines) (With commands (says.Sums at rule))) (sym is)
       (behind-as (after before (says.Sums at rule)) (suc lines) (ruled old at.0 rule) commands (With commands (says.Sums at rule)) (λ b. sym (append-nil (commands b))) (behind-rule before lines old commands at rule fits h))
-  line-behind number (says.Create at members) u r fits k old new is h = subst (Behind _ _ _) (sym is) (orders (says.Create at members) at (command.Create members) (λ b. refl) fits (k at.0) old h)
-  line-behind number (says.Append at members) u r fits k old new is h = subst (Behind _ _ _) (sym is) (orders (says.Append at members) at (command.Append members) (λ b. refl) fits (k at.0) old h)
-  line-behind number (says.Write at bytes) u r fits k old new is h = subst (Behind _ _ _) (sym is) (orders (says.Write at bytes) at (command.Write bytes) (λ b. refl) fits (k at.0) old h)
-  line-behind number (says.Fill at count) u r fits k old new is h = subst (Behind _ _ _) (sym is) (orders (says.Fill at count) at (command.Fill count) (λ b. refl) fits (k at.0) old h)
-  line-behind number (says.Hflush at) u r fits k old new is h = subst (Behind _ _ _) (sym is) (orders (says.Hflush at) at (command.Hflush) (λ b. refl) fits (k at.0) old h)
-  line-behind number (says.Hsync at) u r fits k old new is h = subst (Behind _ _ _) (sym is) (orders (says.Hsync at) at (command.Hsync) (λ b. refl) fits (k at.0) old h)
-  line-behind number (says.Close at) u r fits k old new is h = subst (Behind _ _ _) (sym is) (orders (says.Close at) at (command.Close) (λ b. refl) fits (k at.0) old h)
-  line-behind number (says.Run count) u r fits k old new is h =
+  line-behind number (says.Create at members) u fits k old new is h = subst (Behind _ _ _) (sym is) (orders (says.Create at members) at (command.Create members) (λ b. refl) fits (k at.0) old h)
+  line-behind number (says.Append at members) u fits k old new is h = subst (Behind _ _ _) (sym is) (orders (says.Append at members) at (command.Append members) (λ b. refl) fits (k at.0) old h)
+  line-behind number (says.Write at bytes) u fits k old new is h = subst (Behind _ _ _) (sym is) (orders (says.Write at bytes) at (command.Write bytes) (λ b. refl) fits (k at.0) old h)
+  line-behind number (says.Fill at count) u fits k old new is h = subst (Behind _ _ _) (sym is) (orders (says.Fill at count) at (command.Fill count) (λ b. refl) fits (k at.0) old h)
+  line-behind number (says.Hflush at) u fits k old new is h = subst (Behind _ _ _) (sym is) (orders (says.Hflush at) at (command.Hflush) (λ b. refl) fits (k at.0) old h)
+  line-behind number (says.Hsync at) u fits k old new is h = subst (Behind _ _ _) (sym is) (orders (says.Hsync at) at (command.Hsync) (λ b. refl) fits (k at.0) old h)
+  line-behind number (says.Close at) u fits k old new is h = subst (Behind _ _ _) (sym is) (orders (says.Close at) at (command.Close) (λ b. refl) fits (k at.0) old h)
+  line-behind number (says.Run count) u fits k old new is h =
       subst (Behind before (suc lines) (With commands (says.Run count))) (sym is) (none-more (says.Run count) (draws blocks count old) (λ b. refl) (draws-behind before lines commands blocks count old h))
-  line-behind number says.Settle u r fits k old new is h = none-more says.Settle new (λ b. refl) (settles-behind before lines commands blocks old new is h)
-  line-behind number (says.Step at event) u r fits k old new is h =
+  line-behind number says.Settle u fits k old new is h = none-more says.Settle new (λ b. refl) (settles-behind before lines commands blocks old new is h)
+  line-behind number (says.Step at event) u fits k old new is h =
       subst (Behind before (suc lines) (With commands (says.Step at event))) (sym is)
       (none-more (says.Step at event) _ (λ b. refl) (stepped-keeps (Behind before lines commands) (due-behind before lines commands) (words-behind before lines commands) (unarmed-behind before lines commands) old (step_due (world_of old) at.0 event) (step-asked old (world_of old) at.0 event) h))
-  line-behind number (says.Expect node at state stamp written) u r fits k old new is h =
+  line-behind number (says.Expect node at state stamp written) u fits k old new is h =
       subst (Behind before (suc lines) (With commands (says.Expect node at state stamp written))) (sym is) (none-more (says.Expect node at state stamp written) old (λ b. refl) h)
-  line-behind number (says.Read at node offset count) u r fits k old new is h = absurd (false≢true (sym r))
-  line-behind number (says.Recover at node members) u r fits k old new is h = absurd (false≢true (sym u))
-  line-behind number (says.Cut at connection down up) u r fits k old new is h = absurd (false≢true (sym u))
-  line-behind number (says.Fault node nth) u r fits k old new is h = absurd (false≢true (sym u))
-  line-behind number (says.Stop node) u r fits k old new is h = absurd (false≢true (sym u))
-  line-behind number (says.Start node) u r fits k old new is h = absurd (false≢true (sym u))
+  line-behind number (says.Read at node offset count) u fits k old new is h =
+      let i : Instruction = says.Read at node offset count in
+      let ask : ReadAsk = ask_at (world_of old) number at node offset count in
+      subst (Behind (after before i) (suc lines) (With commands i)) (sym is)
+      (behind-as (after before i) (suc lines) (asked old ask) commands (With commands i) (λ b. sym (append-nil (commands b))) (behind-ask before lines old commands at node offset count ask h))
+  line-behind number (says.Recover at node members) u fits k old new is h = absurd (false≢true (sym u))
+  line-behind number (says.Cut at connection down up) u fits k old new is h = absurd (false≢true (sym u))
+  line-behind number (says.Fault node nth) u fits k old new is h = absurd (false≢true (sym u))
+  line-behind number (says.Stop node) u fits k old new is h = absurd (false≢true (sym u))
+  line-behind number (says.Start node) u fits k old new is h = absurd (false≢true (sym u))
 
 -- ALL LINES
 
-lines-behind : (blocks : List ℕ) (said : List ScriptLine) (before : Before) (lines : ℕ) (commands : ℕ → List Command) (old new : PlayState) → lines + length said ≤ MAX_COMMANDS → HaveNoFailures said → HaveNoReads said → LinesFit before said → ((b : ℕ) → KeepsMembers (commands b ++ commands_of b said)) → PlaysLines blocks said old new
+lines-behind : (blocks : List ℕ) (said : List ScriptLine) (before : Before) (lines : ℕ) (commands : ℕ → List Command) (old new : PlayState) → lines + length said ≤ MAX_COMMANDS → HaveNoFailures said → LinesFit before said → ((b : ℕ) → KeepsMembers (commands b ++ commands_of b said)) → PlaysLines blocks said old new
     → Behind before lines commands old → PlayedOn new (λ b. commands b ++ commands_of b said) × (dues blocks new ≡ [])
-lines-behind blocks [] before lines commands old new few played unread fits members s h =
+lines-behind blocks [] before lines commands old new few played fits members s h =
     (on-as new commands (λ b. commands b ++ []) (λ b. sym (append-nil (commands b))) (settles-behind before lines commands blocks old new s h).on, s.settled)
-lines-behind blocks (l ∷ said) before lines commands old new few played unread fits members s h =
+lines-behind blocks (l ∷ said) before lines commands old new few played fits members s h =
     let i : Instruction = l.instruction in
     let joined : (b : ℕ) → With commands i b ++ commands_of b said ≡ commands b ++ (line_commands b i ++ commands_of b said) = λ b. append_assoc (commands b) (line_commands b i) (commands_of b said) in
     let all : (b : ℕ) → KeepsMembers (With commands i b ++ commands_of b said) = λ b. subst KeepsMembers (sym (joined b)) (members b) in
-    let middle = line-behind blocks before lines commands (omega (arith, few)) l.number i played.0 unread.0 fits.0 (λ b. front-members (With commands i b) (commands_of b said) (all b)) old s.0 s.1.0 h in
-    let end = lines-behind blocks said (after before i) (suc lines) (With commands i) s.0 new (omega (arith, few)) played.1 unread.1 fits.1 all s.1.1 middle in
+    let middle = line-behind blocks before lines commands (omega (arith, few)) l.number i played.0 fits.0 (λ b. front-members (With commands i b) (commands_of b said) (all b)) old s.0 s.1.0 h in
+    let end = lines-behind blocks said (after before i) (suc lines) (With commands i) s.0 new (omega (arith, few)) played.1 fits.1 all s.1.1 middle in
     (on-as new (λ b. With commands i b ++ commands_of b said) (λ b. commands b ++ commands_of b (l ∷ said)) joined end.0, end.1)
 
 -- SCRIPTS
 
 pub plays-complete : PlaysComplete
-plays-complete shelves script end fits played unread members plays =
+plays-complete shelves script end fits played members plays =
     let few : fits.nodes ≤ 16 = fits.few in
     let done : PlayedOn end (λ b. commands_of b script) × (dues (blocks_of script) end ≡ []) =
-    subst (λ (s : List ScriptLine). HaveNoFailures s → HaveNoReads s → ((b : ℕ) → KeepsMembers (commands_of b s)) → Plays s end → PlayedOn end (λ b. commands_of b s) × (dues (blocks_of s) end ≡ [])) (sym fits.parts)
-    (λ p q m x. lines-behind (blocks_of fits.body) fits.body (begun fits.nodes fits.seed) 0 (λ b. []) (opened fits.nodes fits.seed) end (omega (arith, fits.count)) p.1.1 q.1.1 fits.lines m x (record { on = opened-on fits.nodes fits.seed few; follows = opened-follows fits.nodes fits.seed few }))
-    played unread members plays in
+    subst (λ (s : List ScriptLine). HaveNoFailures s → ((b : ℕ) → KeepsMembers (commands_of b s)) → Plays s end → PlayedOn end (λ b. commands_of b s) × (dues (blocks_of s) end ≡ [])) (sym fits.parts)
+    (λ p m x. lines-behind (blocks_of fits.body) fits.body (begun fits.nodes fits.seed) 0 (λ b. []) (opened fits.nodes fits.seed) end (omega (arith, fits.count)) p.1.1 fits.lines m x (record { on = opened-on fits.nodes fits.seed few; follows = opened-follows fits.nodes fits.seed few }))
+    played members plays in
     let of : (b : ℕ) → AllDone (commands_of b script) ((world_of end).said b) × ClosesWhole (world_of end) (record { 0 = b }) (commands_of b script) =
     λ b. settled-complete (blocks_of script) end (λ c. commands_of c script) b done.0.played done.1 (commands-of-blocks shelves script b fits) in
     record { answers = λ b. (of b).0; whole = λ b. (of b.0).1 }

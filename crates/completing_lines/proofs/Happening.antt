@@ -10,6 +10,7 @@ use Rattle.writer_core.specs.declared.actions.Action.TheVariants as action
 use Rattle.writer_core.specs.declared.commands.Command.{Command}
 use Rattle.writer_core.specs.declared.intake.Intake.{Intake}
 use Rattle.writer_core.specs.Transitions.{has_step, is_action}
+use Rattle.completing_writers.proofs.PlayCompleteness.ReaderTurns.{asking-beside, hearing-beside}
 use Rattle.completing_writers.specs.World.Event.TheVariants as event
 use Rattle.completing_writers.specs.World.TakenCommand.{TakenCommand}
 use Rattle.completing_writers.specs.World.Parts.{Upper, by_writer, by_member, by_reader, by_primary, Writing}
@@ -30,7 +31,7 @@ use Rattle.play_lines.proofs.PlayClients.OtherLaws.{own_steps_keep, hearing_keep
 use Rattle.play_lines.specs.PlayLaws.Commands.{given_with}
 use Rattle.play_lines.specs.Lines.{GivenIs}
 use Rattle.play_lines.specs.Showing.{given_in}
-use Rattle.completing_writers.specs.PlayCompleteness.Plain.{is_of_pipeline}
+use Rattle.completing_writers.specs.PlayCompleteness.Plain.{is_of_primary}
 use Rattle.completing_writers.specs.PlayCompleteness.Played.{QueueFits, Played}
 use Rattle.completing_writers.specs.Steps.{PlaysWell, is_own}
 use Rattle.completing_writers.proofs.AllSteps.{all-steps-keep}
@@ -120,15 +121,15 @@ module _ (p : PlayState) (commands : ℕ → List Command) (h : Played p command
       go true same = hearing-keeps-intakes p.nodes p.events c b (e ∙ ap by_writer (sym (eqb-true b a same)))
       go false other = ap (λ (x : Writing). x.known.intake) ((hearing_keeps w c a e).0.writers b (eqb-false b a other))
 
-  up : (c : ConnId) (b : ℕ) (u : Upper) → (w.dialled c.0).upper ≡ u → is_of_pipeline u ≡ true → intake_of (happens w (event.Up c)) b ≡ intake_of w b
+  up : (c : ConnId) (b : ℕ) (u : Upper) → (w.dialled c.0).upper ≡ u → is_of_primary u ≡ false → intake_of (happens w (event.Up c)) b ≡ intake_of w b
   up c b (by_writer a) e one = heard c a b e
   up c b (by_member d) e one = ap (λ (x : Writing). x.known.intake) ((mirror_keeps w c d e).writers b)
-  up c b (by_reader i) e one = absurd (false≢true one)
-  up c b (by_primary i place) e one = absurd (false≢true one)
+  up c b (by_reader i) e one = ap (λ (x : Writing). x.known.intake) ((hearing-beside p.nodes p.events c i e).writers b)
+  up c b (by_primary i place) e one = absurd (false≢true (sym one))
 
   pub other-same : (d : Due) → is_own d ≡ false → (b : ℕ) → Same d b
   other-same (due.Own a) other b = absurd (false≢true (sym other))
-  other-same (due.Reader ask) other b = absurd (false≢true (sym other))
+  other-same (due.Reader ask) other b = ap (λ (x : Writing). given_with x.known.intake (p.queues b)) ((asking-beside w ask).writers b)
   other-same (due.Primary r) other b = absurd (false≢true (sym other))
   other-same (due.Down c) other b = ap (λ (x : Writing). given_with x.known.intake (p.queues b)) ((down_keeps w c true).writers b)
   other-same (due.Ready c) other b = ap (λ (x : Writing). given_with x.known.intake (p.queues b)) ((ready_keeps w c).writers b)

@@ -18,7 +18,7 @@ pub fn dues_stay_behind_lines()
     ensures other { OthersFollow }
 {}
 
-/// A play without failures completes: of a script that fits, has no cut, fault, stop, start, recovery or read, and in which
+/// A play without failures completes: of a script that fits, has no cut, fault, stop, start or recovery, and in which
 /// each append names the members of its block's create in the same order, each command is answered well, and each block
 /// whose last command is a close is whole at all members of its create.
 pub fn plays_complete()

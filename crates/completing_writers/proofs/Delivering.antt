@@ -9,12 +9,13 @@ use Rattle.world.specs.Parts.{Upper, by_writer, by_member, by_reader, by_primary
 use Rattle.world.specs.Worlds.{World, Change, add, start, apply}
 use Rattle.world.specs.Connections.{Next, next_down, next_up, down_taken, up_taken, is_served, is_conn}
 use Rattle.world.specs.Nodes.{lower_down, lower_ready, mirror_up}
-use Rattle.world.specs.Clients.{reader_up}
+use Rattle.world.specs.Clients.{own_reader, reader_up}
 use Rattle.world.specs.Primaries.{primary_up}
 use Rattle.world.specs.Events.{changed, down_as, upper_up, up_as, outcome, after_event, happens, run}
 use Rattle.world_laws.proofs.FactTables.{when-each}
 use Rattle.world_laws.proofs.RunLaws.{runs-join}
-use Rattle.world_laws.proofs.SessionAsides.{Aside, lower-down-aside, lower-ready-aside, mirror-up-aside, reader-up-aside, primary-up-aside}
+use Rattle.world_laws.proofs.SessionAsides.{Aside, lower-down-aside, lower-ready-aside, mirror-up-aside, own-reader-aside, reader-up-aside, primary-up-aside}
+use Rattle.play_model.specs.Asks.{request_of, asking_node}
 use Rattle.play_model.specs.declared.dues.Due.{Due}
 use Rattle.play_model.specs.declared.dues.Due.TheVariants as due
 use Rattle.play_model.specs.States.{world_of}
@@ -71,7 +72,9 @@ up-as-unused w c (Some x) h =
 due-unused : (w : World) (queues : Queues) (d : Due) → is_own d ≡ false → IsUnused w → IsUnused (run w (due_events w queues d))
 unfolding happens outcome
 due-unused w queues (due.Own b) other h = absurd (false≢true (sym other))
-due-unused w queues (due.Reader ask) other h = absurd (false≢true (sym other))
+due-unused w queues (due.Reader ask) other h =
+    let k : Option Change = own_reader w ask.reader ask.node.0 (request_of ask) true in
+    after-unused w h (asking_node ask true) _ (changed-unused w h k (aside-leaves w h k (own-reader-aside w ask.reader ask.node.0 (request_of ask) true)))
 due-unused w queues (due.Primary r) other h = absurd (false≢true (sym other))
 due-unused w queues (due.Down c) other h = after-unused w h (event.Down c true) _ (when-each IsUnused (is_served w c.0) _ (λ _. down-as-unused w c.0 (next_down w c.0) h))
 due-unused w queues (due.Ready c) other h = after-unused w h (event.Ready c) _ (when-each IsUnused (is_served w c.0) _

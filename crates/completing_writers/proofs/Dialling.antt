@@ -27,6 +27,7 @@ use Rattle.play_completeness.specs.Links.{awaited, packets_left, acks_left, reac
 use Rattle.play_completeness.proofs.Flowing.{flows-none}
 use Rattle.play_completeness.proofs.LinkFrame.{BelowWell, flows-same, link-of}
 use Rattle.play_completeness.proofs.TurnWorld.{named}
+use Rattle.play_completeness.proofs.Pipelines.{piped-before}
 use Rattle.completing_writers.proofs.Leaving.{Aside, OfWriter, add-none, aside-of, said-here}
 use Rattle.completing_writers.proofs.Linking.{conn-kept}
 use Rattle.completing_writers.proofs.Doing.{Did}
@@ -156,14 +157,14 @@ module _ (u v : World) (placed : Placed u) (links : Links u) (b : ℕ) (new : Wr
 
   -- All connections, with the new one.
   pub dials-links : Links v
-  dials-links k lk = go (split k (subst (λ (i : ℕ). k < i) conns lk))
+  dials-links k lk = go (split k (subst (λ (i : ℕ). k < i) conns lk.known))
     where
       split : (i : ℕ) → i < u.next_conn + 1 → (i < u.next_conn) ⊎ (i ≡ u.next_conn)
       split i lt = grind (arith, lt)
 
       go : (k < u.next_conn) ⊎ (k ≡ u.next_conn) → Link v k
       go (inr e) = subst (λ (i : ℕ). Link v i) (sym e) new-link
-      go (inl lt) = conn-kept u v b new placed links a k lt (old k lt) (record {
+      go (inl lt) = conn-kept u v b new placed links a k (piped-before u v k lt (a.dialled k lt) lk) (old k lt) (record {
         onward = λ x. absurd (none-some k (sym none ∙ x));
         back = λ x. let same : u.next_conn ≡ k = same_Some u.next_conn k (sym conn ∙ x) in absurd (omega (arith, lt, same));
         stream = λ x. absurd (none-some k (sym none ∙ x));

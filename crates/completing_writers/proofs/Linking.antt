@@ -12,8 +12,9 @@ use Rattle.world.specs.Nodes.{block_of, node_of, replica_at}
 use Rattle.world_laws.specs.Placing.{Placed, IsUpper}
 use Rattle.play_model.specs.Dues.{is_open}
 use Rattle.play_completeness.specs.Streams.{packets_in, acks_in, as_pending, reach_in, reach_of}
-use Rattle.play_completeness.specs.Links.{Awaits, pending_below, awaited, member_reach, member_rule, reach_below, reach_above, rule_above, Link, Links}
+use Rattle.play_completeness.specs.Links.{Awaits, pending_below, awaited, member_reach, member_rule, reach_below, reach_above, rule_above, Link, InPipeline, Links}
 use Rattle.play_completeness.proofs.LinkFrame.{link-same}
+use Rattle.play_completeness.proofs.Pipelines.{piped-before}
 use Rattle.completing_writers.proofs.Leaving.{Aside, Unsent}
 
 -- A writer awaits the same, and has come as far, under the same rule.
@@ -107,12 +108,12 @@ module _ (w v : World) (b : ℕ) (new : Writing) (placed : Placed w) (links : Li
   above-same k o (by_primary i place) within x = absurd x
 
   -- A connection on which nothing was sent.
-  pub conn-kept : (k : ℕ) (lk : k < w.next_conn) → v.downs k ≡ w.downs k → KeepsConn w b k new → Link v k
+  pub conn-kept : (k : ℕ) (lk : InPipeline w k) → v.downs k ≡ w.downs k → KeepsConn w b k new → Link v k
   conn-kept k lk quiet o =
       let u : Upper = (w.dialled k).upper in
       link-same w v k (links k lk) (record {
         below = record {
-          dialled = a.dialled k lk;
+          dialled = a.dialled k lk.known;
           downs = quiet;
           ups = a.ups k;
           down_end = ap (λ (m : Marks). m.end) (a.down_marks k);
@@ -126,13 +127,13 @@ module _ (w v : World) (b : ℕ) (new : Writing) (placed : Placed w) (links : Li
         onward = awaits-on k o u;
         back = awaits-back k o u;
         carry = λ x.
-            let s = above-same k o u (placed.dialled k lk).upper x in
+            let s = above-same k o u (placed.dialled k lk.known).upper x in
             record {
               waits = s.0;
               acks = ap (λ (m : Marks). acks_in (drop m.taken (v.ups k))) (a.up_marks k) ∙ ap (λ (ms : List Message). acks_in (drop (w.up_marks k).taken ms)) (a.ups k);
-              pending = pending-same k lk (w.lowers k);
+              pending = pending-same k lk.known (w.lowers k);
               packets = ap (λ (m : Marks). packets_in (drop m.taken (v.downs k))) (a.down_marks k) ∙ ap (λ (ms : List Message). packets_in (drop (w.down_marks k).taken ms)) quiet;
-              below = λ _. reach-below-same k lk (links k lk).fields (w.lowers k);
+              below = λ _. reach-below-same k lk.known (links k lk).fields (w.lowers k);
               above = s.1;
               rule = s.2;
             };
@@ -141,4 +142,5 @@ module _ (w v : World) (b : ℕ) (new : Writing) (placed : Placed w) (links : Li
   -- All connections, where the writer has the connection that it had, if any, and sends nothing.
   pub quiet-links : Unsent w v → new.conn ≡ (w.writers b).conn → ((k : ℕ) → (w.writers b).conn ≡ Some k → SameStream new.known (w.writers b).known) → Links v
   quiet-links s conn same k lk =
-      conn-kept k (subst (λ (i : ℕ). k < i) s.conns lk) (s.downs k) (record { onward = λ e. conn ∙ e; back = λ e. sym conn ∙ e; stream = same k })
+      let known : k < w.next_conn = subst (λ (i : ℕ). k < i) s.conns lk.known in
+      conn-kept k (piped-before w v k known (a.dialled k known) lk) (s.downs k) (record { onward = λ e. conn ∙ e; back = λ e. sym conn ∙ e; stream = same k })

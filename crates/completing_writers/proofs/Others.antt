@@ -125,7 +125,7 @@ module _ (p : PlayState) (commands : ℕ → List Command) (h : Played p command
   after-is = runs-join (start p.nodes) p.events events
 
   plain : ArePlain (p.events ++ events)
-  plain = plain-join p.events events h.plain (due-plain w p.queues (due.Own b) tt tt)
+  plain = plain-join p.events events h.plain (due-plain w p.queues (due.Own b) tt)
 
   writers-all : (v : World) (new : Writing) → Aside w v b.0 new → WriterWell v b.0 new.known → Writers v
   writers-all v new a well k = go (k == b.0) refl
@@ -147,7 +147,6 @@ module _ (p : PlayState) (commands : ℕ → List Command) (h : Played p command
   folds v new is a links well own =
       let at : run (start p.nodes) (p.events ++ events) ≡ v = runs-join (start p.nodes) p.events events ∙ is in (
         record {
-          asks = h.asks;
           recoveries = h.recoveries;
           unarmed = h.unarmed;
           plain = plain;

@@ -6,5 +6,6 @@ pub use Rattle.play_completeness.proofs.Folding
 pub use Rattle.play_completeness.proofs.Keeping
 pub use Rattle.play_completeness.proofs.OwnFacts
 pub use Rattle.play_completeness.proofs.Plays
+pub use Rattle.play_completeness.proofs.ReaderTurns
 pub use Rattle.play_completeness.proofs.ScriptBlocks
 pub use Rattle.play_completeness.proofs.Whole

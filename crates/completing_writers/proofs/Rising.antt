@@ -30,14 +30,14 @@ use Rattle.world.specs.Parts.{Upper, by_writer, by_member, by_reader, by_primary
 use Rattle.world.specs.Worlds.{World, Change, apply, start}
 use Rattle.world.specs.Connections.{Next, next_down, next_up, down_taken, up_taken, is_served, is_conn}
 use Rattle.world.specs.Nodes.{lower_down, lower_ready, mirror_up}
-use Rattle.world.specs.Clients.{did, dialled_change, dialling, rest_in, is_formed, ruled, command_bytes, is_empty, takes_command, writer_step, writer_up, reader_up}
+use Rattle.world.specs.Clients.{did, dialled_change, dialling, rest_in, is_formed, ruled, command_bytes, is_empty, takes_command, writer_step, writer_up, own_reader, reader_up}
 use Rattle.world.specs.Primaries.{primary_up, writer_asks, writer_asks_office}
 use Rattle.world.specs.Events.{changed, down_as, upper_up, up_as, outcome, after_event, happens, run}
 use Rattle.world_laws.specs.Stamping.{none_given, given_in, heard, HeldOf, Recorded}
 use Rattle.world_laws.proofs.AllRecorded.{all-recorded}
 use Rattle.world_laws.proofs.FactTables.{put-each, when-each}
 use Rattle.world_laws.proofs.RunLaws.{runs-end}
-use Rattle.world_laws.proofs.SessionAsides.{Aside, lower-down-aside, lower-ready-aside, mirror-up-aside, reader-up-aside, primary-up-aside}
+use Rattle.world_laws.proofs.SessionAsides.{Aside, lower-down-aside, lower-ready-aside, mirror-up-aside, own-reader-aside, reader-up-aside, primary-up-aside}
 use Rattle.play_completeness.specs.Plain.{is_plain, ArePlain}
 use Rattle.completing_writers.proofs.RisingSteps.{Rises, ToldRises, own-rises, given-rises, ruled-rises, hears-rises}
 use Rattle.completing_writers.proofs.RisingGrants.{dialled-rises, granted-rises}
@@ -189,7 +189,8 @@ happens-rising : (w : World) (e : Event) → is_plain e ≡ true → AreBelow w.
 unfolding happens outcome
 happens-rising w (event.Own (own.Writer b takes answered)) plain low h =
     after-rising w h (event.Own (own.Writer b takes answered)) _ (changed-rising w h _ (writer-step-leaves w b.0 (w.writers b.0).known (w.writers b.0).told takes answered (h b.0).known (h b.0).told))
-happens-rising w (event.Own (own.Reader i n r answered)) plain low h = absurd (false≢true plain)
+happens-rising w (event.Own (own.Reader i n r answered)) plain low h =
+    after-rising w h (event.Own (own.Reader i n r answered)) _ (changed-rising w h (own_reader w i n.0 r answered) (aside-leaves w h (own_reader w i n.0 r answered) (own-reader-aside w i n.0 r answered)))
 happens-rising w (event.Own (own.Recover i n b members answers)) plain low h = absurd (false≢true plain)
 happens-rising w (event.Own (own.Primary i)) plain low h = absurd (false≢true plain)
 happens-rising w (event.Office (caller.Writer b)) plain low h =

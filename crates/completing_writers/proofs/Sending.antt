@@ -16,11 +16,12 @@ use Rattle.play_completeness.specs.WorldOrders.Orders.{is_empty, IsMember, IsBel
 use Rattle.play_completeness.proofs.WorldOrders.Kept.{eqb-itself}
 use Rattle.play_model.specs.Dues.{is_open}
 use Rattle.play_completeness.specs.Streams.{packets_in, acks_in, as_pending, Flows, reach_of, reach_after, IsNext, Leads}
-use Rattle.play_completeness.specs.Links.{Awaits, pending_below, awaited, packets_left, acks_left, reach_below, reach_above, ReachFits, WritesWell, ActsWell, LowerWell, Carries, Link, Links}
+use Rattle.play_completeness.specs.Links.{Awaits, pending_below, awaited, packets_left, acks_left, reach_below, reach_above, ReachFits, WritesWell, ActsWell, LowerWell, Carries, Link, InPipeline, Links}
 use Rattle.play_completeness.proofs.Flowing.{NoneLast, get-front, flows-send, leads-more}
 use Rattle.play_completeness.proofs.LinkFrame.{BelowWell, below-of, flows-same, reach-same, link-of}
 use Rattle.play_completeness.proofs.HearTurn.{not-empty}
 use Rattle.play_completeness.proofs.Next.{found-at}
+use Rattle.play_completeness.proofs.Pipelines.{piped-before}
 use Rattle.completing_writers.proofs.Leaving.{Aside}
 use Rattle.completing_writers.proofs.Linking.{replica-same, pending-same, reach-below-same, conn-kept}
 
@@ -48,7 +49,7 @@ pub record SendsNext (x n : WriterRecord) (p : Packet) : Type 0 where
   pub unacked : n.stream.unacked ≡ x.stream.unacked ++ p ∷ []
   pub rule : n.stream.rule ≡ x.stream.rule
 
-module _ (w v : World) (o : Ordered w) (placed : Placed w) (links : Links w) (b c : ℕ) (new : Writing) (a : Aside w v b new) (conn : (w.writers b).conn ≡ Some c) (keeps : new.conn ≡ Some c) (lc : c < w.next_conn) (upper : (w.dialled c).upper ≡ by_writer b)
+module _ (w v : World) (o : Ordered w) (placed : Placed w) (links : Links w) (b c : ℕ) (new : Writing) (a : Aside w v b new) (conn : (w.writers b).conn ≡ Some c) (keeps : new.conn ≡ Some c) (lc : InPipeline w c) (upper : (w.dialled c).upper ≡ by_writer b)
     (p : Packet) (conns : v.next_conn ≡ w.next_conn) (downs : v.downs c ≡ w.downs c ++ packet p ∷ []) (others : (k : ℕ) → (k == c) ≡ false → v.downs k ≡ w.downs k)
     (taken : 0 < (w.up_marks c).taken) (sends : SendsNext (w.writers b).known new.known p) (none : NoneLast (map as_pending (w.writers b).known.stream.unacked)) where
   abbrev X : WriterRecord
@@ -115,7 +116,7 @@ module _ (w v : World) (o : Ordered w) (placed : Placed w) (links : Links w) (b 
           below = k.below;
           stays = k.stays;
           mirror = k.mirror;
-          writes = subst (WritesWell c f rule) (sym (replica-same w v b new placed links a c lc f)) k.writes;
+          writes = subst (WritesWell c f rule) (sym (replica-same w v b new placed links a c lc.known f)) k.writes;
           waits = λ e. absurd (false≢true (sym sent-some ∙ (member.answered ∙ e)));
         };
   }
@@ -154,7 +155,7 @@ module _ (w v : World) (o : Ordered w) (placed : Placed w) (links : Links w) (b 
       let z : Flows (map as_pending X.stream.unacked ++ as_pending p ∷ []) (acks_left w c) (pending_below w c l) (packets_left w c ++ p ∷ []) false =
       flows-send (map as_pending X.stream.unacked) (acks_left w c) (pending_below w c l) (packets_left w c) p none flows in
       flows-same (map as_pending X.stream.unacked ++ as_pending p ∷ []) (awaited v (by_writer b)) (acks_left w c) (acks_left v c) (pending_below w c l) (pending_below v c l) (packets_left w c ++ p ∷ []) (packets_left v c) (not (is_open l))
-      waits acks-same (pending-same w v b new placed links a c lc l) packets-now
+      waits acks-same (pending-same w v b new placed links a c lc.known l) packets-now
       (subst (λ (q : Bool). Flows (map as_pending X.stream.unacked ++ as_pending p ∷ []) (acks_left w c) (pending_below w c l) (packets_left w c ++ p ∷ []) (not q)) (sym opened) z)
 
   reaches-now : ReachFits rule (reach_below v c f l) (packets_left v c) (reach_above v (by_writer b)) (not (is_open l))
@@ -163,12 +164,12 @@ module _ (w v : World) (o : Ordered w) (placed : Placed w) (links : Links w) (b 
       let next : IsNext rule (reach_of X) p = subst (λ (r : Rule). IsNext r (reach_of X) p) (same_Some X.stream.rule rule ruled) sends.next in
       let z : Leads rule (reach_below w c f l) (packets_left w c ++ p ∷ []) (reach_after (reach_of X) p) = leads-more rule (reach_below w c f l) (reach_of X) (packets_left w c) p leads next in
       reach-same rule (reach_below w c f l) (reach_below v c f l) (packets_left w c ++ p ∷ []) (packets_left v c) (reach_after (reach_of X) p) (reach_above v (by_writer b)) (not (is_open l))
-      (λ _. reach-below-same w v b new placed links a c lc f l) packets-now above
+      (λ _. reach-below-same w v b new placed links a c lc.known f l) packets-now above
       (subst (λ (q : Bool). ReachFits rule (reach_below w c f l) (packets_left w c ++ p ∷ []) (reach_after (reach_of X) p) (not q)) (sym opened) z)
 
   send-kept : Link v c
   send-kept =
-      link-of v c f rule (by_writer b) l (ap (λ (z : Dialled). z.upper) (a.dialled c lc) ∙ upper) (a.lowers c) send-below (links c lc).request_is
+      link-of v c f rule (by_writer b) l (ap (λ (z : Dialled). z.upper) (a.dialled c lc.known) ∙ upper) (a.lowers c) send-below (links c lc).request_is
       (λ _. ap (λ (y : Writing). y.conn) a.writer ∙ keeps)
       (λ _. record { flows = flows-now; reaches = reaches-now; ruled = ap (λ (y : Writing). Some y.known.stream.rule) a.writer ∙ (ap (λ (r : Rule). Some r) sends.rule ∙ ruled) })
 
@@ -176,8 +177,11 @@ module _ (w v : World) (o : Ordered w) (placed : Placed w) (links : Links w) (b 
   pub sends-links : Links v
   sends-links k lk = go (k == c) refl
     where
-      known : k < w.next_conn
-      known = subst (λ (i : ℕ). k < i) conns lk
+      before : k < w.next_conn
+      before = subst (λ (i : ℕ). k < i) conns lk.known
+
+      known : InPipeline w k
+      known = piped-before w v k before (a.dialled k before) lk
 
       other : (k == c) ≡ false → k ≡ c → ⊥
       other e same = false≢true (sym e ∙ subst (λ (i : ℕ). (i == c) ≡ true) (sym same) (eqb-itself c))

@@ -22,7 +22,7 @@ use Rattle.writer_core.specs.declared.records.WriterRecord.{WriterRecord}
 use Rattle.writer_core.specs.Transitions.{step, sync_formed_as, due_in, due_now, form_step, due_step, stream_step_as, step_in, own_step, is_connected}
 use Rattle.writer_core.proofs.DueLemmas.{choice}
 use Rattle.world.specs.declared.events.Event.{Event}
-use Rattle.world.specs.Parts.{Message, packet, Writing, Said}
+use Rattle.world.specs.Parts.{Message, packet, Writing, Said, by_writer}
 use Rattle.world.specs.Worlds.{World, Change, apply}
 use Rattle.world.specs.Connections.{sent_on}
 use Rattle.world.specs.Clients.{writing_as}
@@ -41,6 +41,7 @@ use Rattle.play_completeness.specs.Writers.{StreamWell, StreamsWell, WriterWell}
 use Rattle.play_completeness.specs.Played.{DoneSoFar, QueueFits, BlockPlayed, Played}
 use Rattle.play_completeness.proofs.Flowing.{NoneLast}
 use Rattle.play_completeness.proofs.TurnWorld.{named}
+use Rattle.play_completeness.proofs.Pipelines.{dialled-in}
 use Rattle.completing_writers.proofs.Leaving.{conns-of, downs-of, happens-own}
 use Rattle.completing_writers.proofs.Others.{Kept, opened-kept, folds}
 use Rattle.completing_writers.proofs.Doing.{Stepped, same-conn, sending, sending-steps, own-alone, action-is, placed}
@@ -136,7 +137,7 @@ module _ (p : PlayState) (commands : ℕ → List Command) (h : Played p command
       ap (λ (x : Action). run w (own_events x b.0 (p.queues b.0))) next ∙ happens-own w b.0 None k (own-alone w b.0 (step (action.Send q) n) (h.quiet b.0) is) in
       let down : v.downs c ≡ w.downs c ++ packet q ∷ [] =
       downs-of w k b.0 alone refl c ∙ ap (λ (ms : List Message). w.downs c ++ ms) (ap (λ (o : Option ℕ). sent_on o (packet q ∷ []) c) there.1 ∙ sent-here c (packet q ∷ [])) in
-      let links = sends-links w v (all-ordered p.nodes p.events) (placed p commands h b) h.links b.0 c new u.aside there.1 (same-conn n.phase (w.writers b.0).conn (inl connected) ∙ there.1) known conn-is.upper q (conns-of w k b.0 alone refl) down
+      let links = sends-links w v (all-ordered p.nodes p.events) (placed p commands h b) h.links b.0 c new u.aside there.1 (same-conn n.phase (w.writers b.0).conn (inl connected) ∙ there.1) (dialled-in w c (by_writer b.0) conn-is.upper refl known) conn-is.upper q (conns-of w k b.0 alone refl) down
       (λ i e. downs-of w k b.0 alone refl i ∙ (ap (λ (ms : List Message). w.downs i ++ ms) (ap (λ (o : Option ℕ). sent_on o (packet q ∷ []) i) there.1 ∙ sent-elsewhere c i (packet q ∷ []) e) ∙ append-nil (w.downs i)))
       has-taken sends (none-pending s.unacked (none-last p.nodes p.events h.quiet b.0 well.office.entry sent well.office.is at)) in
       folds p commands h b v new happened u.aside links (own v u)

@@ -81,10 +81,9 @@ AllOwnStepsKeep = (p : PlayState) (commands : ℕ → List Command) (b : BlockId
 
 -- OTHER DUES, AND COMMANDS
 
--- an own step of a writer, a reader or a primary
+-- an own step of a writer or a primary
 abbrev pub is_own : Due → Bool
 is_own (due.Own b) = true
-is_own (due.Reader ask) = true
 is_own (due.Primary r) = true
 is_own other = false
 

@@ -17,8 +17,8 @@ pub fn all_own_steps_keep_plays()
     ensures { AllOwnStepsKeep }
 {}
 
-/// Where something else is due, what members do or what a writer hears, and `Played` holds after it, the play stays as it
-/// should be.
+/// Where something else is due, what members or readers do or what a writer hears, and `Played` holds after it, the
+/// play stays as it should be.
 pub fn other_dues_keep_the_rest()
     ensures { OthersKeep }
 {}

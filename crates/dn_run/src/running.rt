@@ -16,6 +16,7 @@ use crate::storming::run_storm;
 use crate::tasks::{Task, read_task};
 use fault_ports::CutRoads;
 use hd_base::{Sink, Source};
+use play_readings::plays_end_their_reads;
 use refusing_files::Refusing;
 use std::alloc::Global;
 use told_shelves::ToldShelf;
@@ -108,6 +109,7 @@ fn play<I: Source, F: Refusing, S: ToldShelf<Drawer = F>, R: CutRoads>(
     played_lines_are_told();
     plays_are_safe();
     plays_complete();
+    plays_end_their_reads();
     let lines = read_lines::<I, S>(alloc, script, shelves.len())?;
     let played = play_script(alloc, roads, shelves.as_mut_slice(), lines.as_slice())?;
     Ok(played)

@@ -1,5 +1,5 @@
 -- A member answers its request once its mirror has: its own connection.
-use Rattle.std.proofs.Common.{◌≡◌, ℕ, zero, suc, ◌<◌, ◌≤◌, ◌+◌, true, false, List, [], ◌∷◌, ◌++◌, drop, length, slice_get, Some, None, refl, sym, ◌∙◌, ap, subst, arith, length-append, ◌⊎◌, inl, inr}
+use Rattle.std.proofs.Common.{◌≡◌, ℕ, zero, suc, ◌≤◌, ◌+◌, true, false, List, [], ◌∷◌, ◌++◌, drop, length, slice_get, Some, None, refl, sym, ◌∙◌, ap, subst, arith, length-append, ◌⊎◌, inl, inr}
 use Rattle.std.specs.Prelude.{not, if◌then◌else◌}
 use Rattle.std.proofs.lemmas.Bool.{false≢true}
 use Rattle.std.proofs.lemmas.List.{append-nil, drop-append-le}
@@ -19,14 +19,15 @@ use Rattle.world.specs.Nodes.{block_of, node_of, replica_at}
 use Rattle.world_laws.specs.Placing.{Placed}
 use Rattle.world_orders.proofs.Kept.{sent-here}
 use Rattle.world_orders.proofs.Lists.{Behind, get-append}
+use Rattle.world_orders.specs.Orders.{Ordered}
 use Rattle.play_model.specs.Dues.{is_open}
 use Rattle.play_completeness.specs.Streams.{packets_in, acks_in, reach_in}
-use Rattle.play_completeness.specs.Links.{Awaits, pending_below, awaited, packets_left, acks_left, reach_below, reach_above, WritesWell, ActsWell, MemberWell, LowerWell, IsGoodUp, Carries, Link, Links}
+use Rattle.play_completeness.specs.Links.{Awaits, pending_below, awaited, packets_left, acks_left, reach_below, reach_above, WritesWell, ActsWell, MemberWell, LowerWell, IsGoodUp, Carries, Link, InPipeline, Links}
 use Rattle.play_completeness.proofs.AckTurn.{acks-join}
 use Rattle.play_completeness.proofs.LinkFrame.{BelowWell, below-of, flows-same, reach-same, link-of}
 use Rattle.play_completeness.proofs.Turned.{Turned, sent-off, own-well, awaits-on, above-same}
 
-module _ (w v : World) (placed : Placed w) (links : Links w) (d : ℕ) (m : FullMember) (lt : d < w.next_conn) (is : w.lowers d ≡ writes m) (responds : m.state.responds ≡ true)
+module _ (w v : World) (o : Ordered w) (placed : Placed w) (links : Links w) (d : ℕ) (m : FullMember) (lt : InPipeline w d) (is : w.lowers d ≡ writes m) (responds : m.state.responds ≡ true)
     (a : Response) (t : Turned w v d m (record m.state { mirror = mirror.Open }) (w.replicas (node_of w d) (block_of m.fields)) [] (response a ∷ []) shuts.Nothing)
     (off : is_conn m.mirror d ≡ false) (unmoved : (v.down_marks d).taken ≡ (w.down_marks d).taken) (good : is_success a.status ≡ true) (mirrored : m.mirror ≡ None → ⊥) where
   abbrev R : FullReplica
@@ -48,7 +49,7 @@ module _ (w v : World) (placed : Placed w) (links : Links w) (d : ℕ) (m : Full
   u = (w.dialled d).upper
 
   well : MemberWell w d f rule m
-  well = own-well w v placed links d m lt is responds new R [] (response a ∷ []) shuts.Nothing t
+  well = own-well w v o placed links d m lt is responds new R [] (response a ∷ []) shuts.Nothing t
 
   opened : is_open (writes m) ≡ true
   opened = rw (well.receives, responds) refl
@@ -63,7 +64,7 @@ module _ (w v : World) (placed : Placed w) (links : Links w) (d : ℕ) (m : Full
   old = subst (λ (l : Lower). Carries w d f rule u l) is ((links d lt).carries awaits)
 
   now-at : replica_at v d (block_of m.fields) ≡ R
-  now-at = ap (λ (y : Dialled). v.replicas y.to.node (block_of m.fields)) (t.dialled d lt) ∙ t.replica
+  now-at = ap (λ (y : Dialled). v.replicas y.to.node (block_of m.fields)) (t.dialled d lt.known) ∙ t.replica
 
   downs-same : v.downs d ≡ w.downs d
   downs-same = t.downs d ∙ (ap (λ (ms : List Message). w.downs d ++ ms) (sent-off m.mirror [] d off) ∙ append-nil (w.downs d))
@@ -86,7 +87,7 @@ module _ (w v : World) (placed : Placed w) (links : Links w) (d : ℕ) (m : Full
 
   accept-carries : Carries v d f rule u (writes left)
   accept-carries =
-      let z = above-same w v placed links d m lt is responds new R [] (response a ∷ []) shuts.Nothing t d off u (placed.dialled d lt).upper awaits in
+      let z = above-same w v o placed links d m lt is responds new R [] (response a ∷ []) shuts.Nothing t d off u (placed.dialled d lt.known).upper awaits in
       record {
         flows = flows-same (awaited w u) (awaited v u) (acks_left w d) (acks_left v d) (pending_below w d (writes m)) (pending_below v d (writes left)) (packets_left w d) (packets_left v d) (not (is_open (writes m))) z.0 acks-same pending-same-now packets-same old.flows;
         reaches = reach-same rule (reach_below w d f (writes m)) (reach_below v d f (writes left)) (packets_left w d) (packets_left v d) (reach_above w u) (reach_above v u) (not (is_open (writes m)))
@@ -137,5 +138,5 @@ module _ (w v : World) (placed : Placed w) (links : Links w) (d : ℕ) (m : Full
       }
 
   pub accept-kept : Link v d
-  accept-kept = link-of v d f rule u (writes left) (ap (λ (y : Dialled). y.upper) (t.dialled d lt)) t.lower accept-below (links d lt).request_is
-      (λ _. awaits-on w v placed links d m lt is responds new R [] (response a ∷ []) shuts.Nothing t d off u awaits) (λ _. accept-carries)
+  accept-kept = link-of v d f rule u (writes left) (ap (λ (y : Dialled). y.upper) (t.dialled d lt.known)) t.lower accept-below (links d lt).request_is
+      (λ _. awaits-on w v o placed links d m lt is responds new R [] (response a ∷ []) shuts.Nothing t d off u awaits) (λ _. accept-carries)

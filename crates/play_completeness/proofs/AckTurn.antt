@@ -1,5 +1,5 @@
 -- A member acks its oldest packet: its own connection. With the ack of the last packet it is over.
-use Rattle.std.proofs.Common.{◌≡◌, ℕ, zero, suc, ◌<◌, ◌≤◌, ◌+◌, Bool, true, false, List, [], ◌∷◌, ◌++◌, drop, length, slice_get, Some, refl, sym, ◌∙◌, ap, subst, arith, length-append, ◌⊎◌, inl, inr}
+use Rattle.std.proofs.Common.{◌≡◌, ℕ, zero, suc, ◌≤◌, ◌+◌, Bool, true, false, List, [], ◌∷◌, ◌++◌, drop, length, slice_get, Some, refl, sym, ◌∙◌, ap, subst, arith, length-append, ◌⊎◌, inl, inr}
 use Rattle.std.specs.Prelude.{◌&&◌, ◌||◌, not}
 use Rattle.std.proofs.lemmas.Bool.{false≢true}
 use Rattle.std.proofs.lemmas.List.{append-nil, drop-append-le}
@@ -23,9 +23,10 @@ use Rattle.world.specs.Nodes.{shut_by, block_of, node_of, replica_at}
 use Rattle.world_laws.specs.Placing.{Placed}
 use Rattle.world_orders.proofs.Kept.{eqb-itself, sent-here}
 use Rattle.world_orders.proofs.Lists.{Behind, get-append}
+use Rattle.world_orders.specs.Orders.{Ordered}
 use Rattle.play_model.specs.Dues.{is_open}
 use Rattle.play_completeness.specs.Streams.{packets_in, acks_in, Flows, Reach, reach_in, Leads}
-use Rattle.play_completeness.specs.Links.{Awaits, pending_below, awaited, packets_left, acks_left, reach_below, reach_above, ReachFits, WritesWell, ActsWell, MemberWell, LowerWell, IsGoodAck, IsGoodUp, Carries, Link, Links}
+use Rattle.play_completeness.specs.Links.{Awaits, pending_below, awaited, packets_left, acks_left, reach_below, reach_above, ReachFits, WritesWell, ActsWell, MemberWell, LowerWell, IsGoodAck, IsGoodUp, Carries, Link, InPipeline, Links}
 use Rattle.play_completeness.proofs.Flowing.{flows-ack, flows-over}
 use Rattle.play_completeness.proofs.LinkFrame.{BelowWell, below-of, flows-same, link-of}
 use Rattle.play_completeness.proofs.Turned.{Turned, sent-off, own-well, awaits-on, above-same}
@@ -54,7 +55,7 @@ pub record GoesOn (K k : ReplicaRecord) (rest : List PendingPacket) : Type 0 whe
   pub stream : k.stream ≡ K.stream
   pub pending : k.pending ≡ rest
 
-module _ (w v : World) (placed : Placed w) (links : Links w) (d : ℕ) (m : FullMember) (lt : d < w.next_conn) (is : w.lowers d ≡ writes m) (responds : m.state.responds ≡ true)
+module _ (w v : World) (o : Ordered w) (placed : Placed w) (links : Links w) (d : ℕ) (m : FullMember) (lt : InPipeline w d) (is : w.lowers d ≡ writes m) (responds : m.state.responds ≡ true)
     (new : MemberState) (r : FullReplica) (a : Ack) (shut : Shuts) (t : Turned w v d m new r [] (ack a ∷ []) shut)
     (off : is_conn m.mirror d ≡ false) (answered : is_waiting m.state.mirror ≡ false) (unmoved : (v.down_marks d).taken ≡ (w.down_marks d).taken)
     (e : PendingPacket) (rest : List PendingPacket) (oldest : (w.replicas (node_of w d) (block_of m.fields)).known.pending ≡ e ∷ rest) (number : a.seqno ≡ e.seqno)
@@ -75,7 +76,7 @@ module _ (w v : World) (placed : Placed w) (links : Links w) (d : ℕ) (m : Full
   left = record m { state = new }
 
   well : MemberWell w d f rule m
-  well = own-well w v placed links d m lt is responds new r [] (ack a ∷ []) shut t
+  well = own-well w v o placed links d m lt is responds new r [] (ack a ∷ []) shut t
 
   opened : is_open (writes m) ≡ true
   opened = rw (well.receives, responds) refl
@@ -90,7 +91,7 @@ module _ (w v : World) (placed : Placed w) (links : Links w) (d : ℕ) (m : Full
   old = subst (λ (l : Lower). Carries w d f rule u l) is ((links d lt).carries awaits)
 
   now-at : replica_at v d (block_of m.fields) ≡ r
-  now-at = ap (λ (y : Dialled). v.replicas y.to.node (block_of m.fields)) (t.dialled d lt) ∙ t.replica
+  now-at = ap (λ (y : Dialled). v.replicas y.to.node (block_of m.fields)) (t.dialled d lt.known) ∙ t.replica
 
   downs-same : v.downs d ≡ w.downs d
   downs-same = t.downs d ∙ (ap (λ (ms : List Message). w.downs d ++ ms) (sent-off m.mirror [] d off) ∙ append-nil (w.downs d))
@@ -157,7 +158,7 @@ module _ (w v : World) (placed : Placed w) (links : Links w) (d : ℕ) (m : Full
 
     on-carries : Carries v d f rule u (writes left)
     on-carries =
-        let z = above-same w v placed links d m lt is responds new r [] (ack a ∷ []) shut t d off u (placed.dialled d lt).upper awaits in
+        let z = above-same w v o placed links d m lt is responds new r [] (ack a ∷ []) shut t d off u (placed.dialled d lt.known).upper awaits in
         record {
           flows = subst (λ (b : Bool). Flows (awaited v u) (acks_left v d) (pending_below v d (writes left)) (packets_left v d) (not b)) (sym opened-now)
               (flows-same (awaited w u) (awaited v u) (acks_left w d ++ a ∷ []) (acks_left v d) rest (pending_below v d (writes left)) (packets_left w d) (packets_left v d) false z.0 acks-now pending-now packets-same
@@ -220,8 +221,8 @@ module _ (w v : World) (placed : Placed w) (links : Links w) (d : ℕ) (m : Full
         }
 
     pub on-kept : Link v d
-    on-kept = link-of v d f rule u (writes left) (ap (λ (y : Dialled). y.upper) (t.dialled d lt)) t.lower on-below (links d lt).request_is
-        (λ _. awaits-on w v placed links d m lt is responds new r [] (ack a ∷ []) shut t d off u awaits) (λ _. on-carries)
+    on-kept = link-of v d f rule u (writes left) (ap (λ (y : Dialled). y.upper) (t.dialled d lt.known)) t.lower on-below (links d lt).request_is
+        (λ _. awaits-on w v o placed links d m lt is responds new r [] (ack a ∷ []) shut t d off u awaits) (λ _. on-carries)
 
   -- THE MEMBER IS OVER
 
@@ -245,7 +246,7 @@ module _ (w v : World) (placed : Placed w) (links : Links w) (d : ℕ) (m : Full
 
     over-carries : Carries v d f rule u (writes left)
     over-carries =
-        let z = above-same w v placed links d m lt is responds new r [] (ack a ∷ []) shut t d off u (placed.dialled d lt).upper awaits in
+        let z = above-same w v o placed links d m lt is responds new r [] (ack a ∷ []) shut t d off u (placed.dialled d lt.known).upper awaits in
         record {
           flows = subst (λ (b : Bool). Flows (awaited v u) (acks_left v d) (pending_below v d (writes left)) (packets_left v d) (not b)) (sym closed-now)
               (flows-same (awaited w u) (awaited v u) (acks_left w d ++ a ∷ []) (acks_left v d) rest (pending_below v d (writes left)) (packets_left w d) (packets_left v d) true z.0 acks-now pending-none packets-same final-flows);
@@ -274,5 +275,5 @@ module _ (w v : World) (placed : Placed w) (links : Links w) (d : ℕ) (m : Full
         }
 
     pub over-kept : Link v d
-    over-kept = link-of v d f rule u (writes left) (ap (λ (y : Dialled). y.upper) (t.dialled d lt)) t.lower over-below (links d lt).request_is
+    over-kept = link-of v d f rule u (writes left) (ap (λ (y : Dialled). y.upper) (t.dialled d lt.known)) t.lower over-below (links d lt).request_is
         (λ q. absurd (false≢true (sym closed-now ∙ q))) (λ _. over-carries)

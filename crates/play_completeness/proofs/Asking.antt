@@ -27,7 +27,7 @@ use Rattle.play_scripts.proofs.PlayLaws.Aiming.{targets-are}
 use Rattle.play_scripts.proofs.PlayLaws.Resting.{all-rest}
 use Rattle.play_scripts.proofs.PlayLaws.Running.{all-run}
 use Rattle.play_completeness.specs.Plain.{ArePlain}
-use Rattle.play_completeness.specs.Links.{Links}
+use Rattle.play_completeness.specs.Links.{InPipeline, Links}
 use Rattle.play_completeness.specs.Turning.{RequestsKeepLinks}
 use Rattle.play_completeness.proofs.Awaiting.{plain-keeps-nodes}
 use Rattle.play_completeness.proofs.DownTurns.{after-links}
@@ -55,10 +55,10 @@ module _ (nodes : ℕ) (events : List Event) (few : nodes ≤ MAX_NODES) (plain 
   w = run (start nodes) events
 
   -- The writer of a live connection's block is connected, and the connection is of its stamp.
-  pub live-writer : (c : ℕ) (lc : c < w.next_conn) → is_open (w.lowers c) ≡ true → OfWriter w (links c lc).fields (links c lc).rule
+  pub live-writer : (c : ℕ) (lc : InPipeline w c) → is_open (w.lowers c) ≡ true → OfWriter w (links c lc).fields (links c lc).rule
   live-writer c lc live = live-of w (all-ordered nodes events) (all-placed nodes events) (all-piped nodes events) (all-rest nodes events) (all-acked nodes events).1.uppers quiet links c lc live
 
-  asks : (c : ℕ) (lc : c < w.next_conn) → w.lowers c ≡ idle → (x : Event) → IfSome (down_as w c true false (next_down w c)) (λ v. Links (named x v))
+  asks : (c : ℕ) (lc : InPipeline w c) → w.lowers c ≡ idle → (x : Event) → IfSome (down_as w c true false (next_down w c)) (λ v. Links (named x v))
   asks c lc is x = next-links w o placed (all-peaceful nodes events plain) links c lc is alone unmet reach x (next_down w c) refl
     where
       o : Ordered w
@@ -73,7 +73,7 @@ module _ (nodes : ℕ) (events : List Event) (few : nodes ≤ MAX_NODES) (plain 
       unmet : (i : ℕ) → slice_get (chain w.past c (links c lc).fields) (suc i) ≡ Some (Some (node_of w c)) → ⊥
       unmet i at =
           let u : IsUnmet w.past w.nodes c (links c lc).fields = (all-join nodes events few).unmet c (links c lc).fields (record { asked = (links c lc).asked; waits = is }) in
-          zero-suc i (u.apart 0 (suc i) (node_of w c) (placed.dialled c lc).to refl at)
+          zero-suc i (u.apart 0 (suc i) (node_of w c) (placed.dialled c lc.known).to refl at)
 
       reach : (t : NodeRef) (rest : List NodeRef) → (links c lc).fields.targets ≡ t ∷ rest → Reaches w t
       reach t rest targets =
@@ -82,8 +82,8 @@ module _ (nodes : ℕ) (events : List Event) (few : nodes ≤ MAX_NODES) (plain 
 
 pub requests-keep : RequestsKeepLinks
 unfolding happens outcome
-requests-keep nodes events c few plain names quiet links is =
+requests-keep nodes events c few plain names quiet links piped is =
     let w : World = run (start nodes) events in
     after-links w (event.Down c true) (down_event w c.0 true false) links
     (when-each (λ (v : World). Links (named (event.Down c true) v)) (is_served w c.0) _ (λ k.
-    asks nodes events few plain names quiet links c.0 (less c.0 w (and-left (nat_lt c.0 w.next_conn) _ k)) is (event.Down c true)))
+    asks nodes events few plain names quiet links c.0 (record { known = less c.0 w (and-left (nat_lt c.0 w.next_conn) _ k); of = piped }) is (event.Down c true)))

@@ -34,11 +34,12 @@ use Rattle.play_model.specs.Laws.{IsQuiet}
 use Rattle.play_scripts.specs.PlayLaws.Nodes.{KeepsNodes, AllKeepNodes, NodesRun}
 use Rattle.play_scripts.proofs.PlayLaws.Running.{all-run}
 use Rattle.play_completeness.specs.Plain.{ArePlain, is_plain, Peaceful}
-use Rattle.play_completeness.specs.Links.{MemberAwaits, Awaits, pending_below, awaited, packets_left, acks_left, WaitsWell, MirrorFits, ActsWell, MemberWell, LowerWell, Link, Links}
+use Rattle.play_completeness.specs.Links.{MemberAwaits, Awaits, pending_below, awaited, packets_left, acks_left, WaitsWell, MirrorFits, ActsWell, MemberWell, LowerWell, Link, InPipeline, Links}
 use Rattle.play_completeness.specs.Waiting.{is_asking, awaits_answer, IsWaiting, HasDue, AwaitedIsDue}
 use Rattle.play_completeness.proofs.Flowing.{Somewhere, acked, pends, goes_down, somewhere}
 use Rattle.play_completeness.proofs.Peace.{all-peaceful}
 use Rattle.play_completeness.proofs.Next.{next-message, next-ended, acks-found, packets-found, some-first, when-some, right-none, both, lt-so}
+use Rattle.play_completeness.proofs.Pipelines.{writing-in, awaiting-in}
 
 -- A WORLD
 
@@ -81,7 +82,7 @@ module _ (w : World) (queues : Queues) (o : Ordered w) (p : Placed w) (e : OpenE
 
   member-hears : (c d : ℕ) → d < w.next_conn → (a : MemberAwaits w d c) → hears_mirror (w.lowers d) w d ≡ true
   member-hears c d lt a =
-      let l : Link w d = links d lt in
+      let l : Link w d = links d (writing-in w o d a.member a.is lt) in
       let m : FullMember = a.member in
       let well : MemberWell w d l.fields l.rule m = subst (λ (x : Lower). LowerWell w d l.fields l.rule x) a.is l.lower in
       let responds : m.state.responds ≡ true = and-right m.state.receives m.state.responds (sym (ap is_open a.is) ∙ a.acts) in
@@ -114,7 +115,7 @@ module _ (w : World) (queues : Queues) (o : Ordered w) (p : Placed w) (e : OpenE
   up-open : (c : ℕ) (u : Upper) → IsUpper w.next_conn u → Awaits w c u → (w.up_marks c).over ≡ false
   up-open c (by_writer b) in-range a = e.writers b c a
   up-open c (by_member d) in-range a =
-      let l : Link w d = links d in-range in
+      let l : Link w d = links d (writing-in w o d a.member a.is in-range) in
       let m : FullMember = a.member in
       let well : MemberWell w d l.fields l.rule m = subst (λ (x : Lower). LowerWell w d l.fields l.rule x) a.is l.lower in
       let responds : m.state.responds ≡ true = and-right m.state.receives m.state.responds (sym (ap is_open a.is) ∙ a.acts) in
@@ -138,7 +139,7 @@ module _ (w : World) (queues : Queues) (o : Ordered w) (p : Placed w) (e : OpenE
   early : (c : ℕ) (u : Upper) → IsUpper w.next_conn u → Awaits w c u → awaits_answer w u ≡ true → (w.up_marks c).taken ≡ 0
   early c (by_writer b) in-range a asks = writer-early b c (w.writers b) (o.writers_are b) a asks
   early c (by_member d) in-range a asks =
-      let l : Link w d = links d in-range in
+      let l : Link w d = links d (writing-in w o d a.member a.is in-range) in
       let m : FullMember = a.member in
       let well : MemberWell w d l.fields l.rule m = subst (λ (x : Lower). LowerWell w d l.fields l.rule x) a.is l.lower in
       let responds : m.state.responds ≡ true = and-right m.state.receives m.state.responds (sym (ap is_open a.is) ∙ a.acts) in
@@ -155,9 +156,9 @@ module _ (w : World) (queues : Queues) (o : Ordered w) (p : Placed w) (e : OpenE
   abbrev Below : ℕ → Type 0
   Below n = (c : ℕ) → n < c → c < w.next_conn → Awaits w c (w.dialled c).upper → IsWaiting w (w.dialled c).upper → HasDue w queues
 
-  up-message : (c : ℕ) → c < w.next_conn → Awaits w c (w.dialled c).upper → is_open (w.lowers c) ≡ true → (m : Message) → slice_get (w.ups c) (w.up_marks c).taken ≡ Some m → HasDue w queues
+  up-message : (c : ℕ) → InPipeline w c → Awaits w c (w.dialled c).upper → is_open (w.lowers c) ≡ true → (m : Message) → slice_get (w.ups c) (w.up_marks c).taken ≡ Some m → HasDue w queues
   up-message c lt a acts m found =
-      up-due c lt a (ap is_some (next-message (w.ups c) (w.up_marks c) m (up-open c (w.dialled c).upper (p.dialled c lt).upper a) ((links c lt).ends.up acts) found))
+      up-due c lt.known a (ap is_some (next-message (w.ups c) (w.up_marks c) m (up-open c (w.dialled c).upper (p.dialled c lt.known).upper a) ((links c lt).ends.up acts) found))
 
   -- the mirror of a member: it leads on to its connection
   lead-on : (c : ℕ) (m : FullMember) → w.lowers c ≡ writes m → is_open (writes m) ≡ true → Below c → (q : Option ℕ) → m.mirror ≡ q → (q ≡ None → ⊥) → IsWaiting w (by_member c) → HasDue w queues
@@ -171,22 +172,22 @@ module _ (w : World) (queues : Queues) (o : Ordered w) (p : Placed w) (e : OpenE
       below d link.later known (subst (λ (u : Upper). Awaits w d u) (sym link.upper) a) (subst (λ (u : Upper). IsWaiting w u) (sym link.upper) x)
 
   -- a packet is on its way to a member at which none is pending
-  take-due : (c : ℕ) (m : FullMember) → c < w.next_conn → w.lowers c ≡ writes m → m.state.receives ≡ true → m.state.responds ≡ true → is_waiting m.state.mirror ≡ false → (replica_at w c (block_of m.fields)).known.pending ≡ []
+  take-due : (c : ℕ) (m : FullMember) → InPipeline w c → w.lowers c ≡ writes m → m.state.receives ≡ true → m.state.responds ≡ true → is_waiting m.state.mirror ≡ false → (replica_at w c (block_of m.fields)).known.pending ≡ []
       → (x : Message) → slice_get (w.downs c) (w.down_marks c).taken ≡ Some x → HasDue w queues
   take-due c m lt is receives responds hush pending x found =
       let acts : is_open (writes m) ≡ true = both m.state.receives m.state.responds receives responds in
       let below : IsOpenBelow (writes m) (w.down_marks c).over = subst (λ (y : Lower). IsOpenBelow y (w.down_marks c).over) is (e.below c) in
       let next : next_down w c ≡ Some (message x) = next-message (w.downs c) (w.down_marks c) x (below receives) ((links c lt).ends.down (ap is_open is ∙ acts)) found in
-      down-due c lt (writes m) is acts (rw (next, receives, hush, pending) refl)
+      down-due c lt.known (writes m) is acts (rw (next, receives, hush, pending) refl)
 
   -- a packet is pending at a member without a mirror
-  act-due : (c : ℕ) (m : FullMember) → c < w.next_conn → w.lowers c ≡ writes m → m.state.receives ≡ true → m.state.responds ≡ true → m.state.mirror ≡ mirror.Nobody → (x : PendingPacket) (rest : List PendingPacket)
+  act-due : (c : ℕ) (m : FullMember) → InPipeline w c → w.lowers c ≡ writes m → m.state.receives ≡ true → m.state.responds ≡ true → m.state.mirror ≡ mirror.Nobody → (x : PendingPacket) (rest : List PendingPacket)
       → (replica_at w c (block_of m.fields)).known.pending ≡ x ∷ rest → HasDue w queues
   act-due c m lt is receives responds nobody x rest pending =
-      ready-due c lt (writes m) is (both m.state.receives m.state.responds receives responds) (rw (responds, nobody, pending) refl)
+      ready-due c lt.known (writes m) is (both m.state.receives m.state.responds receives responds) (rw (responds, nobody, pending) refl)
 
   -- the mirror's state of a member that isn't waiting for it
-  by-mirror : (c : ℕ) (f : WriteFields) (m : FullMember) → c < w.next_conn → w.lowers c ≡ writes m → m.state.receives ≡ true → m.state.responds ≡ true → Below c → (z : Mirror) → m.state.mirror ≡ z → is_waiting z ≡ false → MirrorFits f m z
+  by-mirror : (c : ℕ) (f : WriteFields) (m : FullMember) → InPipeline w c → w.lowers c ≡ writes m → m.state.receives ≡ true → m.state.responds ≡ true → Below c → (z : Mirror) → m.state.mirror ≡ z → is_waiting z ≡ false → MirrorFits f m z
       → (x : PendingPacket) (rest : List PendingPacket) → (replica_at w c (block_of m.fields)).known.pending ≡ x ∷ rest → HasDue w queues
   by-mirror c f m lt is receives responds below mirror.Nobody at hush fits x rest pending = act-due c m lt is receives responds at x rest pending
   by-mirror c f m lt is receives responds below mirror.Open at hush fits x rest pending =
@@ -200,14 +201,14 @@ module _ (w : World) (queues : Queues) (o : Ordered w) (p : Placed w) (e : OpenE
   by-mirror c f m lt is receives responds below mirror.Ended at hush fits x rest pending = absurd fits
 
   -- a member that has answered
-  serving-due : (c : ℕ) (m : FullMember) (lt : c < w.next_conn) → w.lowers c ≡ writes m → m.state.receives ≡ true → m.state.responds ≡ true → ActsWell w c (links c lt).fields (links c lt).rule m → is_waiting m.state.mirror ≡ false
+  serving-due : (c : ℕ) (m : FullMember) (lt : InPipeline w c) → w.lowers c ≡ writes m → m.state.receives ≡ true → m.state.responds ≡ true → ActsWell w c (links c lt).fields (links c lt).rule m → is_waiting m.state.mirror ≡ false
       → Awaits w c (w.dialled c).upper → Below c → IsWaiting w (w.dialled c).upper → HasDue w queues
   serving-due c m lt is receives responds well hush a below (inl asks) =
       let u : Upper = (w.dialled c).upper in
       let member : IsMember u (w.down_marks c).taken (w.ups c) m.state.mirror = subst (λ (x : Lower). IsBelow u (w.down_marks c).taken (w.ups c) x) is (o.below c) in
       let first = some-first (w.ups c) (member.answered ∙ hush) in
       let acts : is_open (w.lowers c) ≡ true = ap is_open is ∙ both m.state.receives m.state.responds receives responds in
-      up-message c lt a acts first.0 (subst (λ (n : ℕ). slice_get (w.ups c) n ≡ Some first.0) (sym (early c u (p.dialled c lt).upper a asks)) first.1)
+      up-message c lt a acts first.0 (subst (λ (n : ℕ). slice_get (w.ups c) n ≡ Some first.0) (sym (early c u (p.dialled c lt.known).upper a asks)) first.1)
   serving-due c m lt is receives responds well hush a below (inr some) =
       let u : Upper = (w.dialled c).upper in
       let r : List PendingPacket = (replica_at w c (block_of m.fields)).known.pending in
@@ -230,7 +231,7 @@ module _ (w : World) (queues : Queues) (o : Ordered w) (p : Placed w) (e : OpenE
   asks-on mirror.Ended f m fits e = absurd (false≢true e)
   asks-on mirror.Unreachable f m fits e = absurd fits
 
-  acting-due : (c : ℕ) (m : FullMember) (lt : c < w.next_conn) → w.lowers c ≡ writes m → m.state.receives ≡ true → m.state.responds ≡ true → ActsWell w c (links c lt).fields (links c lt).rule m
+  acting-due : (c : ℕ) (m : FullMember) (lt : InPipeline w c) → w.lowers c ≡ writes m → m.state.receives ≡ true → m.state.responds ≡ true → ActsWell w c (links c lt).fields (links c lt).rule m
       → Awaits w c (w.dialled c).upper → Below c → IsWaiting w (w.dialled c).upper → HasDue w queues
   acting-due c m lt is receives responds well a below x = go (is_waiting m.state.mirror) refl
     where
@@ -240,7 +241,7 @@ module _ (w : World) (queues : Queues) (o : Ordered w) (p : Placed w) (e : OpenE
           lead-on c m is (both m.state.receives m.state.responds receives responds) below m.mirror refl asks.1 (inl (ap is_asking is ∙ asks.0))
       go false waits = serving-due c m lt is receives responds well waits a below x
 
-  by-lower : (c : ℕ) (lt : c < w.next_conn) → Awaits w c (w.dialled c).upper → IsWaiting w (w.dialled c).upper → Below c → (l : Lower) → w.lowers c ≡ l → HasDue w queues
+  by-lower : (c : ℕ) (lt : InPipeline w c) → Awaits w c (w.dialled c).upper → IsWaiting w (w.dialled c).upper → Below c → (l : Lower) → w.lowers c ≡ l → HasDue w queues
   by-lower c lt a x below idle is =
       let f : WriteFields = (links c lt).fields in
       let well : WaitsWell w c f (links c lt).rule = subst (λ (y : Lower). LowerWell w c f (links c lt).rule y) is (links c lt).lower in
@@ -248,7 +249,7 @@ module _ (w : World) (queues : Queues) (o : Ordered w) (p : Placed w) (e : OpenE
       let over : (w.down_marks c).over ≡ false = subst (λ (y : Lower). IsOpenBelow y (w.down_marks c).over) is (e.below c) in
       let end : (w.down_marks c).end ≡ None = (links c lt).ends.down (ap is_open is) in
       let next : next_down w c ≡ Some (message (request (op.Write f))) = next-message (w.downs c) (w.down_marks c) (request (op.Write f)) over end (rw (none, well.early.alone) refl) in
-      down-due c lt idle is refl (ap (λ (y : Option Next). takes_down idle w c y) next)
+      down-due c lt.known idle is refl (ap (λ (y : Option Next). takes_down idle w c y) next)
   by-lower c lt a x below (writes m) is = go m.state.responds refl
     where
       well : MemberWell w c (links c lt).fields (links c lt).rule m
@@ -258,14 +259,14 @@ module _ (w : World) (queues : Queues) (o : Ordered w) (p : Placed w) (e : OpenE
       go true responds = acting-due c m lt is well.receives responds (well.acts responds) a below x
       go false responds =
           let shut : is_open (w.lowers c) ≡ false = ap is_open is ∙ rw (well.receives, responds) refl in
-          up-due c lt a (next-ended (w.ups c) (w.up_marks c) (up-open c (w.dialled c).upper (p.dialled c lt).upper a) ((links c lt).ends.over shut))
+          up-due c lt.known a (next-ended (w.ups c) (w.up_marks c) (up-open c (w.dialled c).upper (p.dialled c lt.known).upper a) ((links c lt).ends.over shut))
   by-lower c lt a x below (serves b s) is = absurd (subst (λ (y : Lower). LowerWell w c (links c lt).fields (links c lt).rule y) is (links c lt).lower)
   by-lower c lt a x below recovers is = absurd (subst (λ (y : Lower). LowerWell w c (links c lt).fields (links c lt).rule y) is (links c lt).lower)
   by-lower c lt a x below ended_below is = absurd (subst (λ (y : Lower). LowerWell w c (links c lt).fields (links c lt).rule y) is (links c lt).lower)
 
   due-from : (k c : ℕ) → w.next_conn ≤ c + k → c < w.next_conn → Awaits w c (w.dialled c).upper → IsWaiting w (w.dialled c).upper → HasDue w queues
   due-from zero c le lt a x = absurd (omega (arith, le, lt))
-  due-from (suc k) c le lt a x = by-lower c lt a x (λ d later known b y. due-from k d (omega (arith, le, later)) known b y) (w.lowers c) refl
+  due-from (suc k) c le lt a x = by-lower c (awaiting-in w c lt a) a x (λ d later known b y. due-from k d (omega (arith, le, later)) known b y) (w.lowers c) refl
 
   pub waiting-due : (c : ℕ) → c < w.next_conn → Awaits w c (w.dialled c).upper → IsWaiting w (w.dialled c).upper → HasDue w queues
   waiting-due c lt a x = due-from w.next_conn c (omega arith) lt a x

@@ -1,5 +1,5 @@
 -- A play that was only opened, and commands that join the queues of their blocks.
-use Rattle.std.proofs.Common.{◌≡◌, ℕ, Bool, true, false, List, [], ◌∷◌, ◌++◌, map, slice_get, Some, None, refl, sym, ◌∙◌, ap, subst, arith, eqb-true, ◌⊎◌, inl, inr}
+use Rattle.std.proofs.Common.{◌≡◌, ℕ, ◌<◌, Bool, true, false, List, [], ◌∷◌, ◌++◌, map, slice_get, Some, None, refl, sym, ◌∙◌, ap, subst, arith, eqb-true, ◌⊎◌, inl, inr}
 use Rattle.std.specs.Prelude.{◌==◌, if◌then◌else◌}
 use Rattle.std.proofs.lemmas.List.{append_assoc, map-append}
 use Rattle.hd_base.specs.Bytes.{IsBytes}
@@ -20,7 +20,7 @@ use Rattle.play_completeness.proofs.Peace.{start-peace}
 
 start-links : (nodes : ℕ) → Links (start nodes)
 unfolding start
-start-links nodes c lt = absurd (omega (arith, lt))
+start-links nodes c lt = let l : c < 0 = lt.known in absurd (omega (arith, l))
 
 start-writers : (nodes : ℕ) → Writers (start nodes)
 unfolding start
@@ -49,7 +49,6 @@ start-quiet nodes b = refl
 
 pub opened-played : OpenedArePlayed
 opened-played nodes seed = record {
-  asks = refl;
   recoveries = refl;
   unarmed = λ n. refl;
   plain = tt;
@@ -82,7 +81,6 @@ more-queued w b queue commands t h bytes fits = record {
 
 pub commands-join : CommandsJoin
 commands-join p commands b c h bytes fits = record {
-  asks = h.asks;
   recoveries = h.recoveries;
   unarmed = h.unarmed;
   plain = h.plain;

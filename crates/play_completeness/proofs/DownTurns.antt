@@ -24,7 +24,7 @@ use Rattle.member_core.specs.Members.{MemberState, no_effect, has_mirror, down_t
 use Rattle.member_core.specs.Steps.{Step, booked_as, with_replica, step}
 use Rattle.world.specs.declared.events.Event.{Event}
 use Rattle.world.specs.declared.events.Event.TheVariants as event
-use Rattle.world.specs.Parts.{Message, request, packet, ack, response, read_status, recovery_answer, Marks, FullMember, Lower, writes, Break}
+use Rattle.world.specs.Parts.{Message, request, packet, ack, response, read_status, recovery_answer, by_member, Marks, FullMember, Lower, writes, Break}
 use Rattle.world.specs.Worlds.{World, put, apply, start}
 use Rattle.world.specs.Connections.{Next, message, the_end, ends_at, next_on, marks_taken, next_down, down_taken, is_served, is_conn}
 use Rattle.world.specs.Nodes.{node_of, block_of, passed, member_change, turn_change, pending_at, member_down, lower_down}
@@ -43,7 +43,7 @@ use Rattle.world_orders.proofs.Takes.{takes-in-order}
 use Rattle.play_model.specs.Dues.{is_open}
 use Rattle.play_completeness.specs.Plain.{IsOwn, Peaceful}
 use Rattle.play_completeness.specs.Streams.{packets_in, reach_in, IsNext, Leads, as_pending}
-use Rattle.play_completeness.specs.Links.{packets_left, reach_above, ReachFits, MirrorFits, WritesWell, MemberWell, LowerWell, Carries, Link, Links}
+use Rattle.play_completeness.specs.Links.{packets_left, reach_above, ReachFits, MirrorFits, WritesWell, MemberWell, LowerWell, Carries, Link, InPipeline, Links}
 use Rattle.play_completeness.specs.Turning.{PacketsKeepLinks}
 use Rattle.play_completeness.proofs.Peace.{all-peaceful}
 use Rattle.play_completeness.proofs.Rows.{IsWritten, stream_with, packet-taken}
@@ -51,6 +51,7 @@ use Rattle.play_completeness.proofs.Turned.{Turned, other-kept}
 use Rattle.play_completeness.proofs.TurnWorld.{named, Takes, turned-by, down-taken-at, up-taken-at}
 use Rattle.play_completeness.proofs.PacketTurn.{drop-found, own-kept, grows}
 use Rattle.play_completeness.proofs.PacketMirror.{mirror-kept}
+use Rattle.play_completeness.proofs.Pipelines.{piped-before, writing-in, dialled-in}
 
 -- THE MEMBER'S STEP
 
@@ -98,7 +99,7 @@ no-end sent k none e = go k.over (slice_get sent k.taken) (sym (ap (λ (o : Opti
 -- A PACKET AT A MEMBER
 
 module _ (w : World) (o : Ordered w) (takes : TakesInOrder w) (placed : Placed w) (h : Peaceful w) (says : (c : ℕ) → LowerSays w.past c (w.lowers c)) (links : Links w)
-    (d : ℕ) (m : FullMember) (lt : d < w.next_conn) (is : w.lowers d ≡ writes m) (opened : is_open (writes m) ≡ true) where
+    (d : ℕ) (m : FullMember) (lt : InPipeline w d) (is : w.lowers d ≡ writes m) (opened : is_open (writes m) ≡ true) where
   abbrev R : FullReplica
   R = w.replicas (node_of w d) (block_of m.fields)
 
@@ -145,10 +146,10 @@ module _ (w : World) (o : Ordered w) (takes : TakesInOrder w) (placed : Placed w
       let mirrors : MirrorIs w.dialled w.up_marks d (writes m) = subst (λ (y : Lower). MirrorIs w.dialled w.up_marks d y) is (o.mirrors d) in
       subst (λ (y : Option ℕ). IfSome y (λ n. IsMirror (w.dialled n) (w.up_marks n).taken d n m.state)) at mirrors
 
-  pub mirror-known : (c : ℕ) → m.mirror ≡ Some c → c < w.next_conn
+  pub mirror-known : (c : ℕ) → m.mirror ≡ Some c → InPipeline w c
   mirror-known c at =
       let low : IsLower w.next_conn (writes m) = subst (λ (y : Lower). IsLower w.next_conn y) is (placed.lowers d) in
-      subst (λ (y : Option ℕ). IfSome y (λ n. n < w.next_conn)) at low.below
+      dialled-in w c (by_member d) (mirror-of c at).upper refl (subst (λ (y : Option ℕ). IfSome y (λ n. n < w.next_conn)) at low.below)
 
   pub mirror-other : (c : ℕ) → m.mirror ≡ Some c → (c == d) ≡ false
   mirror-other c at = let l : d < c = (mirror-of c at).later in grind (arith, nat_tests, l)
@@ -195,13 +196,13 @@ module _ (w : World) (o : Ordered w) (takes : TakesInOrder w) (placed : Placed w
         omega (arith, a, c)
 
     own : Link v d
-    own = own-kept w v placed links d m lt is responds (row R (replica_event.Packet m.state.conn p)) (passed (has_mirror m.state.mirror) (message (packet p))) turned off-own answered p found one-more is-written.info is-written.is is-written.stream is-written.written grown
+    own = own-kept w v o placed links d m lt is responds (row R (replica_event.Packet m.state.conn p)) (passed (has_mirror m.state.mirror) (message (packet p))) turned off-own answered p found one-more is-written.info is-written.is is-written.stream is-written.written grown
 
     mirrors : (c : ℕ) → m.mirror ≡ Some c → Link v c
     mirrors c at =
         let z : m.state.mirror ≡ mirror.Open = open-mirror m.state.mirror c (well.acts responds).mirror at answered in
-        mirror-kept w v placed links d m lt is responds (row R (replica_event.Packet m.state.conn p)) (passed (has_mirror m.state.mirror) (message (packet p))) turned p
-        (grows w v placed links d m lt is responds (row R (replica_event.Packet m.state.conn p)) (passed (has_mirror m.state.mirror) (message (packet p))) turned off-own answered p found one-more is-written.info is-written.is is-written.stream is-written.written grown)
+        mirror-kept w v o placed links d m lt is responds (row R (replica_event.Packet m.state.conn p)) (passed (has_mirror m.state.mirror) (message (packet p))) turned p
+        (grows w v o placed links d m lt is responds (row R (replica_event.Packet m.state.conn p)) (passed (has_mirror m.state.mirror) (message (packet p))) turned off-own answered p found one-more is-written.info is-written.is is-written.stream is-written.written grown)
         c at (mirror-known c at) (mirror-other c at) (mirror-of c at).upper (heard-some c at z)
         (up-taken-at w d m (message (packet p)) (taken_step m.state R p) b e dm w.up_marks (one-taken w.down_marks d (packet p)) (same-marks w.up_marks (is_conn m.mirror)) c)
         (ap (λ (y : Mirror). passed (has_mirror y) (message (packet p))) z)
@@ -209,11 +210,14 @@ module _ (w : World) (o : Ordered w) (takes : TakesInOrder w) (placed : Placed w
     pub all : Links v
     all c lc = go (c == d) refl
       where
-        known : c < w.next_conn
-        known = subst (λ (n : ℕ). c < n) turned.conns lc
+        before : c < w.next_conn
+        before = subst (λ (n : ℕ). c < n) turned.conns lc.known
+
+        known : InPipeline w c
+        known = piped-before w v c before (turned.dialled c before) lc
 
         beside : (c == d) ≡ false → (q : Bool) → is_conn m.mirror c ≡ q → Link v c
-        beside other false off = other-kept w v placed links d m lt is responds m.state (row R (replica_event.Packet m.state.conn p)) (passed (has_mirror m.state.mirror) (message (packet p))) [] shuts.Nothing turned c known other off
+        beside other false off = other-kept w v o placed links d m lt is responds m.state (row R (replica_event.Packet m.state.conn p)) (passed (has_mirror m.state.mirror) (message (packet p))) [] shuts.Nothing turned c known other off
         beside other true on = mirrors c (conn-is m.mirror c on)
           where
             conn-is : (o : Option ℕ) (c : ℕ) → is_conn o c ≡ true → o ≡ Some c
@@ -240,7 +244,7 @@ module _ (w : World) (o : Ordered w) (takes : TakesInOrder w) (placed : Placed w
   abbrev Named : World → Type 0
   Named v = Links (named e v)
 
-  packet-turn : (lt : d < w.next_conn) (p : Packet) → slice_get (w.downs d) (w.down_marks d).taken ≡ Some (packet p) → is_waiting m.state.mirror ≡ false
+  packet-turn : (lt : InPipeline w d) (p : Packet) → slice_get (w.downs d) (w.down_marks d).taken ≡ Some (packet p) → is_waiting m.state.mirror ≡ false
       → IfSome (changed (down_taken w d (message (packet p))) (turn_change (down_taken w d (message (packet p))) d m (message (packet p)) (down_turn m.state (above.Packet p)) false)) Named
   unfolding down_taken
   packet-turn lt p found answered =
@@ -251,7 +255,7 @@ module _ (w : World) (o : Ordered w) (takes : TakesInOrder w) (placed : Placed w
       subst (λ (s : Step). Named (apply z (member_change z d m (message (packet p)) s b))) (sym (packet-step m.state r p _ t))
       (all w o takes placed h says links d m lt is opened p found answered e b)
 
-  member-message : (lt : d < w.next_conn) (y : Message) → next_down w d ≡ Some (message y) → IfSome (changed (down_taken w d (message y)) (member_down (down_taken w d (message y)) d m (message y) false)) Named
+  member-message : (lt : InPipeline w d) (y : Message) → next_down w d ≡ Some (message y) → IfSome (changed (down_taken w d (message y)) (member_down (down_taken w d (message y)) d m (message y) false)) Named
   member-message lt y next =
       let q = packet-only y (takes.packets d m y is next) in
       subst (λ (x : Message). IfSome (changed (down_taken w d (message x)) (member_down (down_taken w d (message x)) d m (message x) false)) Named) (sym q.1)
@@ -269,7 +273,7 @@ module _ (w : World) (o : Ordered w) (takes : TakesInOrder w) (placed : Placed w
               hushed false x = refl
               hushed true x = absurd (false≢true x)
 
-  member-next : (lt : d < w.next_conn) (x : Option Next) → next_down w d ≡ x → IfSome (down_as w d true false x) Named
+  member-next : (lt : InPipeline w d) (x : Option Next) → next_down w d ≡ x → IfSome (down_as w d true false x) Named
   member-next lt None next = tt
   member-next lt (Some the_end) next =
       let acts : is_open (w.lowers d) ≡ true = ap is_open is ∙ opened in
@@ -278,7 +282,7 @@ module _ (w : World) (o : Ordered w) (takes : TakesInOrder w) (placed : Placed w
       subst (λ (l : Lower). IfSome (changed (down_taken w d (message y)) (lower_down l (down_taken w d (message y)) d (message y) true false)) Named) (sym is) (member-message lt y next)
 
   down-links : IfSome (down_event w d true false) Named
-  down-links = when-each Named (is_served w d) _ (λ k. member-next (less (and-left (nat_lt d w.next_conn) _ k)) (next_down w d) refl)
+  down-links = when-each Named (is_served w d) _ (λ k. member-next (writing-in w o d m is (less (and-left (nat_lt d w.next_conn) _ k))) (next_down w d) refl)
     where
       less : nat_lt d w.next_conn ≡ true → d < w.next_conn
       less k = grind (arith, nat_tests, k)

@@ -1,5 +1,5 @@
 -- What an end of a connection does that isn't a writer's: it leaves alone all but the replicas of its block.
-use Rattle.std.proofs.Common.{◌≡◌, ℕ, ◌<◌, Bool, true, false, List, [], ◌++◌, Option, Some, None, IfSome, refl, sym, ◌∙◌, ap, subst}
+use Rattle.std.proofs.Common.{◌≡◌, ℕ, Bool, true, false, List, [], ◌++◌, Option, Some, None, IfSome, refl, sym, ◌∙◌, ap, subst}
 use Rattle.std.specs.Prelude.{◌==◌, ◌&&◌}
 use Rattle.std.proofs.lemmas.List.{append-nil}
 use Rattle.hd_base.specs.SumRules.{Rule}
@@ -21,7 +21,7 @@ use Rattle.world_laws.proofs.FactTables.{if-each, some-weaker, when-each}
 use Rattle.world_orders.specs.Orders.{Ordered}
 use Rattle.play_model.specs.Dues.{is_open}
 use Rattle.play_completeness.specs.Formed.{HasRule, AllHave}
-use Rattle.play_completeness.specs.Links.{WaitsWell, LowerWell, Links}
+use Rattle.play_completeness.specs.Links.{WaitsWell, LowerWell, InPipeline, Links}
 use Rattle.play_completeness.specs.Plain.{Peaceful}
 use Rattle.play_completeness.proofs.DownTurns.{no-end}
 use Rattle.play_completeness.proofs.PeaceNodes.{down-piped, up-piped, ready-piped}
@@ -159,7 +159,7 @@ changed-turned : (w : World) (block : ℕ) (rule : Rule) (e : Event) (o : Option
 changed-turned w block rule e None h = tt
 changed-turned w block rule e (Some k) h = end-turned w block rule k e h
 
-module _ (w : World) (o : Ordered w) (h : Peaceful w) (links : Links w) (c : ℕ) (lc : c < w.next_conn) (e : Event) where
+module _ (w : World) (o : Ordered w) (h : Peaceful w) (links : Links w) (c : ℕ) (lc : InPipeline w c) (e : Event) where
   abbrev f : WriteFields
   f = (links c lc).fields
 

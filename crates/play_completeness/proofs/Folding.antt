@@ -17,9 +17,9 @@ use Rattle.play_model.proofs.ListedLemmas.{listed_due}
 use Rattle.play_completeness.specs.Complete.{KeepsMembers}
 use Rattle.play_completeness.specs.Keeping.{PlayedOn}
 use Rattle.play_completeness.specs.Played.{Played}
-use Rattle.play_completeness.proofs.Keeping.{conns-keep}
+use Rattle.play_completeness.proofs.Keeping.{conns-keep, readers-keep}
 use Rattle.play_completeness.proofs.OwnFacts.{own-keeps}
-use Rattle.play_completeness.proofs.Plays.{Among, none-asked, none-recovered}
+use Rattle.play_completeness.proofs.Plays.{Among, none-recovered}
 use Rattle.play_completeness.proofs.Unarmed.{befalls-due}
 
 -- DRAWS
@@ -69,7 +69,7 @@ pub due-keeps : OwnKeepsPlays → (commands : ℕ → List Command) → ((b : �
 due-keeps own commands members p (due.Own b) h is asked =
     let facts = own-keeps p commands b h.played h.names h.ruled in
     record { played = own p commands b (members b.0) h is; names = facts.0; ruled = facts.1 }
-due-keeps own commands members p (due.Reader ask) h is asked = none-asked p.asks ask h.played.asks asked.0
+due-keeps own commands members p (due.Reader ask) h is asked = readers-keep p commands ask h
 due-keeps own commands members p (due.Primary r) h is asked = none-recovered p.recoveries r h.played.recoveries asked.1
 due-keeps own commands members p (due.Down c) h is asked = conns-keep p commands (due.Down c) h is tt
 due-keeps own commands members p (due.Ready c) h is asked = conns-keep p commands (due.Ready c) h is tt
@@ -78,7 +78,7 @@ due-keeps own commands members p (due.Up c) h is asked = conns-keep p commands (
 -- a word that is taken from the generator
 pub advanced-keeps : (commands : ℕ → List Command) (p : PlayState) → PlayedOn p commands → PlayedOn (advanced p) commands
 advanced-keeps commands p h = record {
-  played = record { asks = h.played.asks; recoveries = h.played.recoveries; unarmed = h.played.unarmed; plain = h.played.plain; quiet = h.played.quiet; peaceful = h.played.peaceful; links = h.played.links; writers = h.played.writers; blocks = h.played.blocks };
+  played = record { recoveries = h.played.recoveries; unarmed = h.played.unarmed; plain = h.played.plain; quiet = h.played.quiet; peaceful = h.played.peaceful; links = h.played.links; writers = h.played.writers; blocks = h.played.blocks };
   names = record { few = h.names.few; named = h.names.named };
   ruled = h.ruled;
 }

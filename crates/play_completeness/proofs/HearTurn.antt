@@ -22,7 +22,7 @@ use Rattle.world_orders.specs.Orders.{is_empty, IsMember, IsBelow, Ordered}
 use Rattle.world_orders.proofs.Kept.{eqb-itself}
 use Rattle.play_model.specs.Dues.{is_open}
 use Rattle.play_completeness.specs.Streams.{acks_in, packets_in, Flows, reach_in}
-use Rattle.play_completeness.specs.Links.{MemberAwaits, Awaits, pending_below, awaited, packets_left, acks_left, member_reach, member_rule, reach_below, reach_above, rule_above, WritesWell, ActsWell, LowerWell, Carries, Link, Links}
+use Rattle.play_completeness.specs.Links.{MemberAwaits, Awaits, pending_below, awaited, packets_left, acks_left, member_reach, member_rule, reach_below, reach_above, rule_above, WritesWell, ActsWell, LowerWell, Carries, Link, InPipeline, Links}
 use Rattle.play_completeness.proofs.Flowing.{get-within}
 use Rattle.play_completeness.proofs.LinkFrame.{BelowWell, below-of, flows-same, reach-same, link-of}
 use Rattle.play_completeness.proofs.Turned.{Turned, sent-off, own-well, other-stays, pending-same, reach-below-same}
@@ -32,9 +32,9 @@ pub not-empty : (xs : List Message) (n : ℕ) (x : Message) → slice_get xs n �
 not-empty [] n x e = absurd (none-some x e)
 not-empty (y ∷ xs) n x e = refl
 
-module _ (w v : World) (o : Ordered w) (placed : Placed w) (links : Links w) (d : ℕ) (m : FullMember) (lt : d < w.next_conn) (is : w.lowers d ≡ writes m) (responds : m.state.responds ≡ true)
+module _ (w v : World) (o : Ordered w) (placed : Placed w) (links : Links w) (d : ℕ) (m : FullMember) (lt : InPipeline w d) (is : w.lowers d ≡ writes m) (responds : m.state.responds ≡ true)
     (new : MemberState) (r : FullReplica) (sent : List Message) (shut : Shuts) (t : Turned w v d m new r [] sent shut)
-    (c : ℕ) (mirrored : m.mirror ≡ Some c) (lc : c < w.next_conn) (other : (c == d) ≡ false) (upper : (w.dialled c).upper ≡ by_member d)
+    (c : ℕ) (mirrored : m.mirror ≡ Some c) (lc : InPipeline w c) (other : (c == d) ≡ false) (upper : (w.dialled c).upper ≡ by_member d)
     (y : Message) (found : slice_get (w.ups c) (w.up_marks c).taken ≡ Some y) (heard : (v.up_marks c).taken ≡ suc (w.up_marks c).taken) where
   abbrev K : ReplicaRecord
   K = (w.replicas (node_of w d) (block_of m.fields)).known
@@ -49,7 +49,7 @@ module _ (w v : World) (o : Ordered w) (placed : Placed w) (links : Links w) (d 
   left = record m { state = new }
 
   now-at : replica_at v d (block_of m.fields) ≡ r
-  now-at = ap (λ (z : Dialled). v.replicas z.to.node (block_of m.fields)) (t.dialled d lt) ∙ t.replica
+  now-at = ap (λ (z : Dialled). v.replicas z.to.node (block_of m.fields)) (t.dialled d lt.known) ∙ t.replica
 
   downs-same : v.downs c ≡ w.downs c
   downs-same = t.downs c ∙ (ap (λ (ms : List Message). w.downs c ++ ms) nothing ∙ append-nil (w.downs c))
@@ -79,7 +79,7 @@ module _ (w v : World) (o : Ordered w) (placed : Placed w) (links : Links w) (d 
     acts = λ a.
         let k : ActsWell w c fc rulec x = z.acts a in
         let same : replica_at v c (block_of fc) ≡ replica_at w c (block_of fc) =
-        ap (λ (q : Dialled). v.replicas q.to.node (block_of fc)) (t.dialled c lc) ∙ other-stays w v placed links d m lt is responds new r [] sent shut t c lc other x at a in
+        ap (λ (q : Dialled). v.replicas q.to.node (block_of fc)) (t.dialled c lc.known) ∙ other-stays w v o placed links d m lt is responds new r [] sent shut t c lc other x at a in
         let member : IsMember (w.dialled c).upper (w.down_marks c).taken (w.ups c) x.state.mirror = subst (λ (q : Lower). IsBelow (w.dialled c).upper (w.down_marks c).taken (w.ups c) q) at (o.below c) in
         record {
           quiet = k.quiet;
@@ -116,7 +116,7 @@ module _ (w v : World) (o : Ordered w) (placed : Placed w) (links : Links w) (d 
       within {a} {b} l = omega (arith, l)
 
   acting : is_open (w.lowers d) ≡ true
-  acting = ap is_open is ∙ rw ((own-well w v placed links d m lt is responds new r [] sent shut t).receives, responds) refl
+  acting = ap is_open is ∙ rw ((own-well w v o placed links d m lt is responds new r [] sent shut t).receives, responds) refl
 
   awaits-before : MemberAwaits w d c
   awaits-before = record { member = m; is = is; mirror = mirrored; acts = acting }
@@ -139,9 +139,9 @@ module _ (w v : World) (o : Ordered w) (placed : Placed w) (links : Links w) (d 
     hear-carries : Carries v c fc rulec (by_member d) (w.lowers c)
     hear-carries = record {
       flows = flows-same pending (awaited v (by_member d)) (acks_left v c) (acks_left v c) (pending_below w c (w.lowers c)) (pending_below v c (w.lowers c)) (packets_left w c) (packets_left v c) (not (is_open (w.lowers c)))
-          (ap (pending_below v d) t.lower ∙ pends) refl (pending-same w v placed links d m lt is responds new r [] sent shut t c lc other (w.lowers c) refl) packets-same flows;
+          (ap (pending_below v d) t.lower ∙ pends) refl (pending-same w v o placed links d m lt is responds new r [] sent shut t c lc other (w.lowers c) refl) packets-same flows;
       reaches = reach-same rulec (reach_below w c fc (w.lowers c)) (reach_below v c fc (w.lowers c)) (packets_left w c) (packets_left v c) (reach_above w (by_member d)) (reach_above v (by_member d)) (not (is_open (w.lowers c)))
-          (λ e. reach-below-same w v placed links d m lt is responds new r [] sent shut t c lc other (w.lowers c) refl (opens (is_open (w.lowers c)) e)) packets-same above-now hear-old.reaches;
+          (λ e. reach-below-same w v o placed links d m lt is responds new r [] sent shut t c lc other (w.lowers c) refl (opens (is_open (w.lowers c)) e)) packets-same above-now hear-old.reaches;
       ruled = rule-now ∙ hear-old.ruled;
     }
       where
@@ -150,11 +150,11 @@ module _ (w v : World) (o : Ordered w) (placed : Placed w) (links : Links w) (d 
         opens false e = absurd (false≢true (sym e))
 
     pub hear-kept : Link v c
-    hear-kept = link-of v c fc rulec (by_member d) (w.lowers c) (ap (λ (z : Dialled). z.upper) (t.dialled c lc) ∙ upper) (t.lowers c other) (hear-below (λ _. ap (λ (s : Shuts). shut_by s d m.mirror c) quiet)) (links c lc).request_is
+    hear-kept = link-of v c fc rulec (by_member d) (w.lowers c) (ap (λ (z : Dialled). z.upper) (t.dialled c lc.known) ∙ upper) (t.lowers c other) (hear-below (λ _. ap (λ (s : Shuts). shut_by s d m.mirror c) quiet)) (links c lc).request_is
         (λ _. awaits-now) (λ _. hear-carries)
 
   -- the member is over, and so is its mirror
   pub hear-over : is_open (writes left) ≡ false → is_open (w.lowers c) ≡ false → Link v c
   hear-over closed mirror_closed =
-      link-of v c fc rulec (by_member d) (w.lowers c) (ap (λ (z : Dialled). z.upper) (t.dialled c lc) ∙ upper) (t.lowers c other) (hear-below (λ q. absurd (false≢true (sym mirror_closed ∙ q)))) (links c lc).request_is
+      link-of v c fc rulec (by_member d) (w.lowers c) (ap (λ (z : Dialled). z.upper) (t.dialled c lc.known) ∙ upper) (t.lowers c other) (hear-below (λ q. absurd (false≢true (sym mirror_closed ∙ q)))) (links c lc).request_is
       (λ q. absurd (false≢true (sym mirror_closed ∙ q))) (λ a. absurd (false≢true (sym closed ∙ (sym (ap is_open t.lower) ∙ a.acts))))

@@ -33,16 +33,17 @@ use Rattle.world_orders.proofs.Takes.{takes-in-order}
 use Rattle.play_model.specs.Dues.{is_open}
 use Rattle.play_completeness.specs.Plain.{ArePlain, Peaceful}
 use Rattle.play_completeness.specs.Streams.{acks_in, HasLast}
-use Rattle.play_completeness.specs.Links.{acks_left, MirrorFits, Links}
+use Rattle.play_completeness.specs.Links.{acks_left, MirrorFits, InPipeline, Links}
 use Rattle.play_completeness.specs.Turning.{HearingKeepsLinks}
 use Rattle.play_completeness.proofs.Peace.{all-peaceful}
 use Rattle.play_completeness.proofs.TurnWorld.{named}
 use Rattle.play_completeness.proofs.DownTurns.{no-end, after-links}
 use Rattle.play_completeness.proofs.UpSteps.{ack-only, response-only, end-last}
 use Rattle.play_completeness.proofs.UpTurns.{old, acting, acks, answers}
+use Rattle.play_completeness.proofs.Pipelines.{writing-in, dialled-in}
 
 module _ (w : World) (o : Ordered w) (takes : TakesInOrder w) (placed : Placed w) (h : Peaceful w) (says : (c : ℕ) → LowerSays w.past c (w.lowers c)) (filled : Filled w) (links : Links w)
-    (d : ℕ) (m : FullMember) (lt : d < w.next_conn) (is : w.lowers d ≡ writes m) (opened : is_open (writes m) ≡ true) (c : ℕ) (lc : c < w.next_conn) (mirrored : m.mirror ≡ Some c) (upper : (w.dialled c).upper ≡ by_member d)
+    (d : ℕ) (m : FullMember) (lt : InPipeline w d) (is : w.lowers d ≡ writes m) (opened : is_open (writes m) ≡ true) (c : ℕ) (lc : InPipeline w c) (mirrored : m.mirror ≡ Some c) (upper : (w.dialled c).upper ≡ by_member d)
     (tells : Mirrors w.past d c) (x : Event) where
   abbrev Named : World → Type 0
   Named v = Links (named x v)
@@ -115,10 +116,10 @@ heard-links nodes events c d m plain links upper is opened x lc =
     let w : World = run (start nodes) events in
     let o : Ordered w = all-ordered nodes events in
     let placed : Placed w = all-placed nodes events in
-    let within : d < w.next_conn = subst (λ (u : Upper). IsUpper w.next_conn u) upper (placed.dialled c lc).upper in
+    let within : InPipeline w d = writing-in w o d m is (subst (λ (u : Upper). IsUpper w.next_conn u) upper (placed.dialled c lc).upper) in
     let mirrored : m.mirror ≡ Some c = subst (λ (l : Lower). HasDialled c l) is (o.dialled_by c d lc upper) in
     let tells : Mirrors w.past d c = subst (λ (u : Upper). UpperTells w.past c u) upper ((all-acked nodes events).1.uppers c lc) in
-    mirror-next w o (takes-in-order w o) placed (all-peaceful nodes events plain) (all-carried nodes events).lowers (all-filled nodes events) links d m within is opened c lc mirrored upper tells x (next_up w c) refl
+    mirror-next w o (takes-in-order w o) placed (all-peaceful nodes events plain) (all-carried nodes events).lowers (all-filled nodes events) links d m within is opened c (dialled-in w c (by_member d) upper refl lc) mirrored upper tells x (next_up w c) refl
 
 pub hearing-keeps : HearingKeepsLinks
 unfolding happens outcome

@@ -4,7 +4,9 @@ pub mod OwnReplicas
 pub mod PeaceFrame
 pub mod PeaceWriters
 pub mod PeaceNodes
+pub mod PeaceReaders
 pub mod Peace
+pub mod Pipelines
 pub mod Flowing
 pub mod Next
 pub mod Awaiting
@@ -40,6 +42,9 @@ pub mod Requests
 pub mod Asking
 pub mod EndTurns
 pub mod EndsKeep
+pub mod Beside
+pub mod BesideWorld
+pub mod ReaderTurns
 pub mod Keeping
 pub mod RowRules
 pub mod Finals

@@ -1,5 +1,5 @@
 -- An idle end takes its request: its own connection, and the one to its mirror.
-use Rattle.std.proofs.Common.{◌≡◌, ℕ, suc, ◌<◌, ◌≤◌, true, false, List, [], ◌∷◌, ◌++◌, drop, length, map, slice_get, Option, Some, None, refl, sym, ◌∙◌, ap, subst, arith}
+use Rattle.std.proofs.Common.{◌≡◌, ℕ, suc, ◌≤◌, true, false, List, [], ◌∷◌, ◌++◌, drop, length, map, slice_get, Option, Some, None, refl, sym, ◌∙◌, ap, subst, arith}
 use Rattle.std.proofs.lemmas.Bool.{false≢true}
 use Rattle.std.proofs.lemmas.Option.{none-some}
 use Rattle.hd_base.specs.SumRules.{Rule}
@@ -27,7 +27,7 @@ use Rattle.world_orders.specs.Orders.{IsBelow, Ordered}
 use Rattle.world_closings.specs.WorldWriters.Taking.{chain}
 use Rattle.play_model.specs.Dues.{is_open}
 use Rattle.play_completeness.specs.Streams.{packets_in, acks_in, first_reach, reach_in}
-use Rattle.play_completeness.specs.Links.{MemberAwaits, Awaits, pending_below, awaited, packets_left, acks_left, member_reach, member_rule, reach_below, reach_above, MayTake, IsRequest, IsEarly, WritesWell, MirrorFits, ActsWell, LowerWell, IsGoodUp, Carries, Link, Links}
+use Rattle.play_completeness.specs.Links.{MemberAwaits, Awaits, pending_below, awaited, packets_left, acks_left, member_reach, member_rule, reach_below, reach_above, MayTake, IsRequest, IsEarly, WritesWell, MirrorFits, ActsWell, LowerWell, IsGoodUp, Carries, Link, InPipeline, Links}
 use Rattle.play_completeness.proofs.Flowing.{flows-none}
 use Rattle.play_completeness.proofs.LinkFrame.{BelowWell, flows-same, reach-same, link-of}
 use Rattle.play_completeness.proofs.RequestRow.{Opens, stays-open}
@@ -49,7 +49,7 @@ may-onward (Some kind.StreamRecovery) source f rest rule r x = x
 may-onward (Some kind.CloseRecovery) source f rest rule r x = x
 may-onward None source f rest rule r x = x
 
-module _ (w v : World) (o : Ordered w) (placed : Placed w) (links : Links w) (c : ℕ) (lc : c < w.next_conn) (is : w.lowers c ≡ idle) (alone : WaitsAlone w links c (links c lc).fields)
+module _ (w v : World) (o : Ordered w) (placed : Placed w) (links : Links w) (c : ℕ) (lc : InPipeline w c) (is : w.lowers c ≡ idle) (alone : WaitsAlone w links c (links c lc).fields)
     (z : Mirror) (q : Option ℕ) (r : FullReplica) (sent : List Message) (t : TookRequest w v c (links c lc).fields (member_with c (links c lc).fields z q) r sent) (beyond : (k : ℕ) → q ≡ Some k → w.next_conn ≤ k)
     (x : Opens (record { 0 = c }) (links c lc).fields (links c lc).rule (w.replicas (node_of w c) (block_of (links c lc).fields))) (now : r.known ≡ set_writer (w.replicas (node_of w c) (block_of (links c lc).fields)).known x.info (Some (record { 0 = c })))
     (fits : MirrorFits (links c lc).fields (member_with c (links c lc).fields z q) z) (good : (i : ℕ) (y : Message) → slice_get sent i ≡ Some y → IsGoodUp (links c lc).fields y) (silent : acks_in sent ≡ [])
@@ -70,7 +70,7 @@ module _ (w v : World) (o : Ordered w) (placed : Placed w) (links : Links w) (c 
   K = (w.replicas (node_of w c) (block_of f)).known
 
   early : IsEarly w c f
-  early = (waits-well w v placed links c lc is alone m r sent t beyond).early
+  early = (waits-well w v o placed links c lc is alone m r sent t beyond).early
 
   -- nothing was taken or sent up
   below-none : ((w.down_marks c).taken ≡ 0) × (w.ups c ≡ [])
@@ -83,12 +83,12 @@ module _ (w v : World) (o : Ordered w) (placed : Placed w) (links : Links w) (c 
   old = subst (λ (l : Lower). Carries w c f rule u l) is ((links c lc).carries awaits)
 
   now-known : (replica_at v c (block_of f)).known ≡ set_writer K x.info (Some (record { 0 = c }))
-  now-known = ap (λ (y : Dialled). (v.replicas y.to.node (block_of f)).known) (t.dialled c lc) ∙ (ap (λ (y : FullReplica). y.known) t.replica ∙ now)
+  now-known = ap (λ (y : Dialled). (v.replicas y.to.node (block_of f)).known) (t.dialled c lc.known) ∙ (ap (λ (y : FullReplica). y.known) t.replica ∙ now)
 
   -- WHAT STANDS ON ITS CONNECTION
 
   downs-are : v.downs c ≡ request (op.Write f) ∷ []
-  downs-are = t.downs c lc ∙ early.alone
+  downs-are = t.downs c lc.known ∙ early.alone
 
   ups-are : v.ups c ≡ sent
   ups-are = t.ups c ∙ (ap (λ (ms : List Message). w.ups c ++ ms) (sent-here c sent) ∙ ap (λ (ms : List Message). ms ++ sent) below-none.1)
@@ -154,7 +154,7 @@ module _ (w v : World) (o : Ordered w) (placed : Placed w) (links : Links w) (c 
 
   new-carries : Carries v c f rule u (writes m)
   new-carries =
-      let s = above-same w v placed links c lc is alone m r sent t beyond c u (placed.dialled c lc).upper awaits in
+      let s = above-same w v o placed links c lc is alone m r sent t beyond c u (placed.dialled c lc.known).upper awaits in
       record {
         flows = flows-same (awaited w u) (awaited v u) (acks_left w c) (acks_left v c) [] (pending_below v c (writes m)) (packets_left w c) (packets_left v c) false s.0 (acks-now ∙ sym acks-before) pending-now (packets-now ∙ sym packets-before) old.flows;
         reaches = reach-same rule (first_reach (promised f)) (reach_below v c f (writes m)) (packets_left w c) (packets_left v c) (reach_above w u) (reach_above v u) false (λ _. reach-now) (packets-now ∙ sym packets-before) s.1 old.reaches;
@@ -162,8 +162,8 @@ module _ (w v : World) (o : Ordered w) (placed : Placed w) (links : Links w) (c 
       }
 
   pub own-kept : Link v c
-  own-kept = link-of v c f rule u (writes m) (ap (λ (y : Dialled). y.upper) (t.dialled c lc)) t.lower new-below (links c lc).request_is
-      (λ _. awaits-on w v placed links c lc is alone m r sent t beyond c u awaits) (λ _. new-carries)
+  own-kept = link-of v c f rule u (writes m) (ap (λ (y : Dialled). y.upper) (t.dialled c lc.known)) t.lower new-below (links c lc).request_is
+      (λ _. awaits-on w v o placed links c lc is alone m r sent t beyond c u awaits) (λ _. new-carries)
 
   -- THE CONNECTION TO ITS MIRROR
 
@@ -185,9 +185,9 @@ module _ (w v : World) (o : Ordered w) (placed : Placed w) (links : Links w) (c 
     mirror-ready i n found =
         let before : slice_get (chain w.past c f) (suc i) ≡ Some (Some n) = sym (ap (λ (ns : List (Option ℕ)). slice_get ns i) chain-onward) ∙ found in
         let same : v.replicas n (block_of f) ≡ w.replicas n (block_of f) =
-        stays w v placed links c lc is alone m r sent t beyond n (block_of f) (λ n_is _. apart i (before ∙ ap (λ (j : ℕ). Some (Some j)) n_is)) in
+        stays w v o placed links c lc is alone m r sent t beyond n (block_of f) (λ n_is _. apart i (before ∙ ap (λ (j : ℕ). Some (Some j)) n_is)) in
         may-onward (setup_with f.stage) source f rest rule (v.replicas n (block_of f))
-        (subst (λ (y : FullReplica). MayTake (setup_with f.stage) f rule y) (sym same) ((waits-well w v placed links c lc is alone m r sent t beyond).ready (suc i) n before))
+        (subst (λ (y : FullReplica). MayTake (setup_with f.stage) f rule y) (sym same) ((waits-well w v o placed links c lc is alone m r sent t beyond).ready (suc i) n before))
 
     mirror-request : IsRequest g rule
     mirror-request =

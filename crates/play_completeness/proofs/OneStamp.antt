@@ -25,8 +25,9 @@ use Rattle.world_closings.specs.WorldWriters.Piping.{setup_stamp, Piped, PipedOf
 use Rattle.play_model.specs.Dues.{is_open}
 use Rattle.play_model.specs.Laws.{IsQuiet}
 use Rattle.play_scripts.specs.PlayLaws.Writers.{Rests}
-use Rattle.play_completeness.specs.Links.{MemberAwaits, Awaits, member_rule, rule_above, WritesWell, MemberWell, LowerWell, Link, Links}
+use Rattle.play_completeness.specs.Links.{MemberAwaits, Awaits, member_rule, rule_above, WritesWell, MemberWell, LowerWell, Link, InPipeline, Links}
 use Rattle.play_completeness.proofs.UpSteps.{same-fields}
+use Rattle.play_completeness.proofs.Pipelines.{writing-in}
 
 -- the stamp of the setup of a block's writer
 abbrev pub stamp_at : World → ℕ → Stamp
@@ -59,7 +60,7 @@ module _ (w : World) (o : Ordered w) (placed : Placed w) (piped : (b : ℕ) → 
       go true e = e
       go false e = absurd (none-some c (sym ((rest b).alone e) ∙ conn))
 
-  of-writer : (c b : ℕ) (lc : c < w.next_conn) → (w.dialled c).upper ≡ by_writer b → (w.writers b).conn ≡ Some c → OfWriter w (links c lc).fields (links c lc).rule
+  of-writer : (c b : ℕ) (lc : InPipeline w c) → (w.dialled c).upper ≡ by_writer b → (w.writers b).conn ≡ Some c → OfWriter w (links c lc).fields (links c lc).rule
   of-writer c b lc up conn =
       let same : heard (w.writers b) ≡ (w.writers b).known = ap (known_heard (w.writers b).known) (quiet b) in
       let on : is_connected (w.writers b).known.phase ≡ true = connected-by b c conn in
@@ -78,7 +79,7 @@ module _ (w : World) (o : Ordered w) (placed : Placed w) (piped : (b : ℕ) → 
       })
 
   -- a member has the rule of its request
-  member-ruled : (d c : ℕ) (ld : d < w.next_conn) (a : MemberAwaits w d c) → rule_above w (by_member d) ≡ Some (links d ld).rule
+  member-ruled : (d c : ℕ) (ld : InPipeline w d) (a : MemberAwaits w d c) → rule_above w (by_member d) ≡ Some (links d ld).rule
   member-ruled d c ld a =
       let l : Link w d = links d ld in
       let well : MemberWell w d l.fields l.rule a.member = subst (λ (x : Lower). LowerWell w d l.fields l.rule x) a.is l.lower in
@@ -86,7 +87,7 @@ module _ (w : World) (o : Ordered w) (placed : Placed w) (piped : (b : ℕ) → 
       let at : rule_in (replica_at w d (block_of a.member.fields)).known ≡ rule_in (replica_at w d (block_of l.fields)).known = ap (λ (f : WriteFields). rule_in (replica_at w d (block_of f)).known) well.fields_are in
       ap (member_rule w d) a.is ∙ (at ∙ (ap (λ (o : Option ReplicaInfo). option_map (λ (i : ReplicaInfo). i.sums) o) y.is ∙ ap (λ (r : Rule). Some r) y.rule_is))
 
-  of-member : (c d : ℕ) (lc : c < w.next_conn) (ld : d < w.next_conn) → (w.dialled c).upper ≡ by_member d → MemberAwaits w d c → Mirrors w.past d c → OfWriter w (links d ld).fields (links d ld).rule → OfWriter w (links c lc).fields (links c lc).rule
+  of-member : (c d : ℕ) (lc : InPipeline w c) (ld : InPipeline w d) → (w.dialled c).upper ≡ by_member d → MemberAwaits w d c → Mirrors w.past d c → OfWriter w (links d ld).fields (links d ld).rule → OfWriter w (links c lc).fields (links c lc).rule
   of-member c d lc ld up a m h =
       let awaits : Awaits w c (w.dialled c).upper = subst (λ (u : Upper). Awaits w c u) (sym up) a in
       let ruled : rule_above w (by_member d) ≡ Some (links c lc).rule = sym (ap (rule_above w) up) ∙ ((links c lc).carries awaits).ruled in
@@ -99,16 +100,16 @@ module _ (w : World) (o : Ordered w) (placed : Placed w) (piped : (b : ℕ) → 
 
   -- so it is of each live connection below this number
   abbrev Known : ℕ → Type 0
-  Known k = (c : ℕ) (lc : c < w.next_conn) → c < k → is_open (w.lowers c) ≡ true → OfWriter w (links c lc).fields (links c lc).rule
+  Known k = (c : ℕ) (lc : InPipeline w c) → c < k → is_open (w.lowers c) ≡ true → OfWriter w (links c lc).fields (links c lc).rule
 
-  by-upper : (c : ℕ) (lc : c < w.next_conn) → Known c → (u : Upper) → (w.dialled c).upper ≡ u → Awaits w c u → OfWriter w (links c lc).fields (links c lc).rule
+  by-upper : (c : ℕ) (lc : InPipeline w c) → Known c → (u : Upper) → (w.dialled c).upper ≡ u → Awaits w c u → OfWriter w (links c lc).fields (links c lc).rule
   by-upper c lc below (by_writer b) up a = of-writer c b lc up a
   by-upper c lc below (by_member d) up a =
-      let ld : d < w.next_conn = subst (λ (u : Upper). IsUpper w.next_conn u) up (placed.dialled c lc).upper in
+      let ld : InPipeline w d = writing-in w o d a.member a.is (subst (λ (u : Upper). IsUpper w.next_conn u) up (placed.dialled c lc.known).upper) in
       let mirrors : MirrorIs w.dialled w.up_marks d (writes a.member) = subst (λ (l : Lower). MirrorIs w.dialled w.up_marks d l) a.is (o.mirrors d) in
       let is : IsMirror (w.dialled c) (w.up_marks c).taken d c a.member.state =
       subst (λ (q : Option ℕ). IfSome q (λ n. IsMirror (w.dialled n) (w.up_marks n).taken d n a.member.state)) a.mirror mirrors in
-      of-member c d lc ld up a (subst (λ (u : Upper). UpperTells w.past c u) up (tells c lc)) (below d ld is.later a.acts)
+      of-member c d lc ld up a (subst (λ (u : Upper). UpperTells w.past c u) up (tells c lc.known)) (below d ld is.later a.acts)
   by-upper c lc below (by_reader i) up a = absurd a
   by-upper c lc below (by_primary i place) up a = absurd a
 
@@ -118,11 +119,11 @@ module _ (w : World) (o : Ordered w) (placed : Placed w) (piped : (b : ℕ) → 
       by-upper c lc (λ d ld later acts. known-below k d ld (omega (arith, later, lt)) acts) (w.dialled c).upper refl ((links c lc).live live)
 
   -- The writer of a live connection's block is connected, and the connection is of its stamp.
-  pub live-of : (c : ℕ) (lc : c < w.next_conn) → is_open (w.lowers c) ≡ true → OfWriter w (links c lc).fields (links c lc).rule
+  pub live-of : (c : ℕ) (lc : InPipeline w c) → is_open (w.lowers c) ≡ true → OfWriter w (links c lc).fields (links c lc).rule
   live-of c lc live = known-below (suc c) c lc (omega arith) live
 
   -- Of one block at most one connection waits to be asked.
-  pub one-waits : Requests w → (c d : ℕ) (lc : c < w.next_conn) (ld : d < w.next_conn) → w.lowers c ≡ idle → w.lowers d ≡ idle → block_of (links c lc).fields ≡ block_of (links d ld).fields → c ≡ d
+  pub one-waits : Requests w → (c d : ℕ) (lc : InPipeline w c) (ld : InPipeline w d) → w.lowers c ≡ idle → w.lowers d ≡ idle → block_of (links c lc).fields ≡ block_of (links d ld).fields → c ≡ d
   one-waits q c d lc ld ic id same =
       let a = live-of c lc (ap is_open ic) in
       let b = live-of d ld (ap is_open id) in

@@ -19,15 +19,16 @@ use Rattle.world.specs.Connections.{sent_on}
 use Rattle.world.specs.Nodes.{block_of, node_of, replica_at}
 use Rattle.world_laws.specs.Placing.{Placed}
 use Rattle.world_orders.proofs.Kept.{eqb-itself}
+use Rattle.world_orders.specs.Orders.{Ordered}
 use Rattle.play_model.specs.Dues.{is_open}
 use Rattle.play_completeness.specs.Streams.{packets_in, acks_in, as_pending, Flows, Reach, reach_after, reach_in, IsNext, Leads}
-use Rattle.play_completeness.specs.Links.{MemberAwaits, Awaits, pending_below, awaited, packets_left, acks_left, member_reach, member_rule, reach_below, reach_above, ReachFits, IsEarly, WritesWell, ActsWell, MemberWell, LowerWell, Carries, Link, Links}
+use Rattle.play_completeness.specs.Links.{MemberAwaits, Awaits, pending_below, awaited, packets_left, acks_left, member_reach, member_rule, reach_below, reach_above, ReachFits, IsEarly, WritesWell, ActsWell, MemberWell, LowerWell, Carries, Link, InPipeline, Links}
 use Rattle.play_completeness.proofs.Flowing.{NoneLast, get-front, flows-send, leads-more}
 use Rattle.play_completeness.proofs.LinkFrame.{BelowWell, below-of, flows-same, link-of}
 use Rattle.play_completeness.proofs.Turned.{Turned, sent-off, own-well, other-stays, pending-same, reach-below-same}
 use Rattle.play_completeness.proofs.PacketTurn.{packets-more, Grows}
 
-module _ (w v : World) (placed : Placed w) (links : Links w) (d : ℕ) (m : FullMember) (lt : d < w.next_conn) (is : w.lowers d ≡ writes m) (responds : m.state.responds ≡ true)
+module _ (w v : World) (o : Ordered w) (placed : Placed w) (links : Links w) (d : ℕ) (m : FullMember) (lt : InPipeline w d) (is : w.lowers d ≡ writes m) (responds : m.state.responds ≡ true)
     (r : FullReplica) (forwarded : List Message) (t : Turned w v d m m.state r forwarded [] shuts.Nothing) (p : Packet) (g : Grows (links d lt).rule (w.replicas (node_of w d) (block_of m.fields)).known r.known p) where
   abbrev K : ReplicaRecord
   K = (w.replicas (node_of w d) (block_of m.fields)).known
@@ -39,7 +40,7 @@ module _ (w v : World) (placed : Placed w) (links : Links w) (d : ℕ) (m : Full
   rule = (links d lt).rule
 
   well : MemberWell w d f rule m
-  well = own-well w v placed links d m lt is responds m.state r forwarded [] shuts.Nothing t
+  well = own-well w v o placed links d m lt is responds m.state r forwarded [] shuts.Nothing t
 
   opened : is_open (writes m) ≡ true
   opened = rw (well.receives, responds) refl
@@ -48,7 +49,7 @@ module _ (w v : World) (placed : Placed w) (links : Links w) (d : ℕ) (m : Full
   acts = ap is_open is ∙ opened
 
   now-at : replica_at v d (block_of m.fields) ≡ r
-  now-at = ap (λ (y : Dialled). v.replicas y.to.node (block_of m.fields)) (t.dialled d lt) ∙ t.replica
+  now-at = ap (λ (y : Dialled). v.replicas y.to.node (block_of m.fields)) (t.dialled d lt.known) ∙ t.replica
 
   pending-before : pending_below w d (writes m) ≡ K.pending
   pending-before = rw responds refl
@@ -59,7 +60,7 @@ module _ (w v : World) (placed : Placed w) (links : Links w) (d : ℕ) (m : Full
   reach-now : reach_in (replica_at v d (block_of m.fields)).known ≡ reach_after (reach_in K) p
   reach-now = ap (λ (x : FullReplica). reach_in x.known) now-at ∙ g.reach
 
-  module _ (c : ℕ) (mirrored : m.mirror ≡ Some c) (lc : c < w.next_conn) (other : (c == d) ≡ false) (upper : (w.dialled c).upper ≡ by_member d) (heard : 0 < (w.up_marks c).taken) (unheard : (v.up_marks c).taken ≡ (w.up_marks c).taken) (sent : forwarded ≡ packet p ∷ []) where
+  module _ (c : ℕ) (mirrored : m.mirror ≡ Some c) (lc : InPipeline w c) (other : (c == d) ≡ false) (upper : (w.dialled c).upper ≡ by_member d) (heard : 0 < (w.up_marks c).taken) (unheard : (v.up_marks c).taken ≡ (w.up_marks c).taken) (sent : forwarded ≡ packet p ∷ []) where
     mirror-awaits : MemberAwaits w d c
     mirror-awaits = record { member = m; is = is; mirror = mirrored; acts = acts }
 
@@ -101,7 +102,7 @@ module _ (w v : World) (placed : Placed w) (links : Links w) (d : ℕ) (m : Full
       acts = λ a.
           let z : ActsWell w c fc rulec x = y.acts a in
           let same : replica_at v c (block_of fc) ≡ replica_at w c (block_of fc) =
-          ap (λ (q : Dialled). v.replicas q.to.node (block_of fc)) (t.dialled c lc) ∙ other-stays w v placed links d m lt is responds m.state r forwarded [] shuts.Nothing t c lc other x at a in
+          ap (λ (q : Dialled). v.replicas q.to.node (block_of fc)) (t.dialled c lc.known) ∙ other-stays w v o placed links d m lt is responds m.state r forwarded [] shuts.Nothing t c lc other x at a in
           record {
             quiet = z.quiet;
             below = z.below;
@@ -168,7 +169,7 @@ module _ (w v : World) (placed : Placed w) (links : Links w) (d : ℕ) (m : Full
         let more = flows-send K.pending (acks_left w c) (pending_below w c (w.lowers c)) (packets_left w c) p none
         (subst (λ (xs : List PendingPacket). Flows xs (acks_left w c) (pending_below w c (w.lowers c)) (packets_left w c) false) waits before) in
         flows-same (K.pending ++ as_pending p ∷ []) (awaited v (by_member d)) (acks_left w c) (acks_left v c) (pending_below w c (w.lowers c)) (pending_below v c (w.lowers c)) (packets_left w c ++ p ∷ []) (packets_left v c) false
-        (ap (pending_below v d) t.lower ∙ pending-now) mirror-acks (pending-same w v placed links d m lt is responds m.state r forwarded [] shuts.Nothing t c lc other (w.lowers c) refl) mirror-packets more
+        (ap (pending_below v d) t.lower ∙ pending-now) mirror-acks (pending-same w v o placed links d m lt is responds m.state r forwarded [] shuts.Nothing t c lc other (w.lowers c) refl) mirror-packets more
 
     above-now : reach_above v (by_member d) ≡ reach_after (reach_in K) p
     above-now = ap (member_reach v d) t.lower ∙ reach-now
@@ -179,7 +180,7 @@ module _ (w v : World) (placed : Placed w) (links : Links w) (d : ℕ) (m : Full
         subst (λ (b : Bool). ReachFits rulec (reach_below w c fc (w.lowers c)) (packets_left w c) (reach_above w (by_member d)) (not b)) mirror-opened mirror-old.reaches in
         let next : IsNext rulec (reach_in K) p = subst (λ (z : Rule). IsNext z (reach_in K) p) (sym rules-same) g.next in
         let more = leads-more rulec (reach_below w c fc (w.lowers c)) (reach_in K) (packets_left w c) p (subst (λ (z : Reach). Leads rulec (reach_below w c fc (w.lowers c)) (packets_left w c) z) above-before before) next in
-        subst (λ (z : Reach). Leads rulec z (packets_left v c) (reach_above v (by_member d))) (sym (reach-below-same w v placed links d m lt is responds m.state r forwarded [] shuts.Nothing t c lc other (w.lowers c) refl mirror-opened))
+        subst (λ (z : Reach). Leads rulec z (packets_left v c) (reach_above v (by_member d))) (sym (reach-below-same w v o placed links d m lt is responds m.state r forwarded [] shuts.Nothing t c lc other (w.lowers c) refl mirror-opened))
         (subst (λ (ps : List Packet). Leads rulec (reach_below w c fc (w.lowers c)) ps (reach_above v (by_member d))) (sym mirror-packets)
         (subst (λ (z : Reach). Leads rulec (reach_below w c fc (w.lowers c)) (packets_left w c ++ p ∷ []) z) (sym above-now) more))
 
@@ -191,4 +192,4 @@ module _ (w v : World) (placed : Placed w) (links : Links w) (d : ℕ) (m : Full
     }
 
     pub mirror-kept : Link v c
-    mirror-kept = link-of v c fc rulec (by_member d) (w.lowers c) (ap (λ (y : Dialled). y.upper) (t.dialled c lc) ∙ upper) (t.lowers c other) mirror-below (links c lc).request_is (λ _. mirror-awaits-now) (λ _. mirror-carries)
+    mirror-kept = link-of v c fc rulec (by_member d) (w.lowers c) (ap (λ (y : Dialled). y.upper) (t.dialled c lc.known) ∙ upper) (t.lowers c other) mirror-below (links c lc).request_is (λ _. mirror-awaits-now) (λ _. mirror-carries)

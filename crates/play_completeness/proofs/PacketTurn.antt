@@ -22,9 +22,10 @@ use Rattle.world.specs.Connections.{sent_on, is_conn}
 use Rattle.world.specs.Nodes.{block_of, node_of, replica_at}
 use Rattle.world_laws.specs.Placing.{Placed}
 use Rattle.world_orders.proofs.Kept.{eqb-itself}
+use Rattle.world_orders.specs.Orders.{Ordered}
 use Rattle.play_model.specs.Dues.{is_open}
 use Rattle.play_completeness.specs.Streams.{packets_in, acks_in, as_pending, Flows, Reach, reach_after, reach_in, IsNext, Leads}
-use Rattle.play_completeness.specs.Links.{Awaits, pending_below, awaited, packets_left, acks_left, reach_below, reach_above, ReachFits, WritesWell, ActsWell, MemberWell, LowerWell, Carries, Link, Links}
+use Rattle.play_completeness.specs.Links.{Awaits, pending_below, awaited, packets_left, acks_left, reach_below, reach_above, ReachFits, WritesWell, ActsWell, MemberWell, LowerWell, Carries, Link, InPipeline, Links}
 use Rattle.play_completeness.proofs.Flowing.{NoneLast, get-within, flows-take, flows-none-last}
 use Rattle.play_completeness.proofs.LinkFrame.{BelowWell, below-of, flows-same, link-of}
 use Rattle.play_completeness.proofs.Rows.{stream_with}
@@ -58,7 +59,7 @@ pub record Grows (rule : Rule) (old new : ReplicaRecord) (p : Packet) : Type 0 w
   pub reach : reach_in new ≡ reach_after (reach_in old) p
   pub rules : rule_in new ≡ rule_in old
 
-module _ (w v : World) (placed : Placed w) (links : Links w) (d : ℕ) (m : FullMember) (lt : d < w.next_conn) (is : w.lowers d ≡ writes m) (responds : m.state.responds ≡ true)
+module _ (w v : World) (o : Ordered w) (placed : Placed w) (links : Links w) (d : ℕ) (m : FullMember) (lt : InPipeline w d) (is : w.lowers d ≡ writes m) (responds : m.state.responds ≡ true)
     (r : FullReplica) (forwarded : List Message) (t : Turned w v d m m.state r forwarded [] shuts.Nothing)
     (off : is_conn m.mirror d ≡ false) (answered : is_waiting m.state.mirror ≡ false)
     (p : Packet) (found : slice_get (w.downs d) (w.down_marks d).taken ≡ Some (packet p)) (taken : (v.down_marks d).taken ≡ suc (w.down_marks d).taken)
@@ -77,7 +78,7 @@ module _ (w v : World) (placed : Placed w) (links : Links w) (d : ℕ) (m : Full
   u = (w.dialled d).upper
 
   well : MemberWell w d f rule m
-  well = own-well w v placed links d m lt is responds m.state r forwarded [] shuts.Nothing t
+  well = own-well w v o placed links d m lt is responds m.state r forwarded [] shuts.Nothing t
 
   acts : is_open (w.lowers d) ≡ true
   acts = ap is_open is ∙ rw (well.receives, responds) refl
@@ -86,7 +87,7 @@ module _ (w v : World) (placed : Placed w) (links : Links w) (d : ℕ) (m : Full
   opened = rw (well.receives, responds) refl
 
   now-at : replica_at v d (block_of m.fields) ≡ r
-  now-at = ap (λ (y : Dialled). v.replicas y.to.node (block_of m.fields)) (t.dialled d lt) ∙ t.replica
+  now-at = ap (λ (y : Dialled). v.replicas y.to.node (block_of m.fields)) (t.dialled d lt.known) ∙ t.replica
 
   now-known : (replica_at v d (block_of m.fields)).known ≡ extend K info (stream_with s p) (as_pending p)
   now-known = ap (λ (x : FullReplica). x.known) now-at ∙ grown
@@ -142,7 +143,7 @@ module _ (w v : World) (placed : Placed w) (links : Links w) (d : ℕ) (m : Full
 
   own-carries : Carries v d f rule u (writes m)
   own-carries =
-      let z = above-same w v placed links d m lt is responds m.state r forwarded [] shuts.Nothing t d off u (placed.dialled d lt).upper awaits in
+      let z = above-same w v o placed links d m lt is responds m.state r forwarded [] shuts.Nothing t d off u (placed.dialled d lt.known).upper awaits in
       record {
         flows = subst (λ (b : Bool). Flows (awaited v u) (acks_left v d) (pending_below v d (writes m)) (packets_left v d) (not b)) (sym opened)
             (flows-same (awaited w u) (awaited v u) (acks_left w d) (acks_left v d) (K.pending ++ as_pending p ∷ []) (pending_below v d (writes m)) (packets_left v d) (packets_left v d) false z.0 acks-same pending-now refl
@@ -204,8 +205,8 @@ module _ (w v : World) (placed : Placed w) (links : Links w) (d : ℕ) (m : Full
       within {a} {b} l = omega (arith, l)
 
   pub own-kept : Link v d
-  own-kept = link-of v d f rule u (writes m) (ap (λ (y : Dialled). y.upper) (t.dialled d lt)) t.lower own-below (links d lt).request_is
-      (λ _. awaits-on w v placed links d m lt is responds m.state r forwarded [] shuts.Nothing t d off u awaits) (λ _. own-carries)
+  own-kept = link-of v d f rule u (writes m) (ap (λ (y : Dialled). y.upper) (t.dialled d lt.known)) t.lower own-below (links d lt).request_is
+      (λ _. awaits-on w v o placed links d m lt is responds m.state r forwarded [] shuts.Nothing t d off u awaits) (λ _. own-carries)
 
   pub grows : Grows rule K r.known p
   grows = record {

@@ -1,5 +1,5 @@
 -- Plain events keep the peace.
-use Rattle.std.proofs.Common.{◌≡◌, ℕ, Bool, true, false, List, [], ◌∷◌, Option, Some, None, IfSome, refl}
+use Rattle.std.proofs.Common.{◌≡◌, ℕ, Bool, true, false, List, [], ◌∷◌, Option, Some, None, IfSome, refl, sym}
 use Rattle.std.specs.Prelude.{nat_lt}
 use Rattle.std.proofs.lemmas.Bool.{false≢true}
 use Rattle.std.proofs.lemmas.Option.{none-some}
@@ -13,14 +13,15 @@ use Rattle.world.specs.Parts.{Upper, by_writer, by_member, by_reader, by_primary
 use Rattle.world.specs.Worlds.{World, Change, start}
 use Rattle.world.specs.Connections.{Next, message, the_end, next_down, next_up, down_taken, up_taken, is_served}
 use Rattle.world.specs.Nodes.{lower_down, lower_ready, mirror_up}
-use Rattle.world.specs.Clients.{own_writer, writer_up}
+use Rattle.world.specs.Clients.{own_writer, writer_up, own_reader, reader_up}
 use Rattle.world.specs.Primaries.{writer_asks_office, office_event}
 use Rattle.world.specs.Events.{changed, own_change, down_as, down_event, ready_event, upper_up, up_as, up_event, outcome, after_event, happens, run}
 use Rattle.world_laws.proofs.FactTables.{some-weaker, when-each}
 use Rattle.world_orders.proofs.AllOrdered.{next-found}
-use Rattle.play_completeness.specs.Plain.{is_plain, is_plain_step, is_plain_call, ArePlain, is_of_pipeline, Peaceful, AllPeaceful}
+use Rattle.play_completeness.specs.Plain.{is_plain, is_plain_step, is_plain_call, ArePlain, is_of_primary, Peaceful, AllPeaceful}
 use Rattle.play_completeness.proofs.PeaceFrame.{Brings, Leaves, leaves-brings, apply-peace}
 use Rattle.play_completeness.proofs.PeaceWriters.{own-leaves, writer-up-leaves, office-leaves}
+use Rattle.play_completeness.proofs.PeaceReaders.{own-reader-leaves, reader-up-leaves}
 use Rattle.play_completeness.proofs.PeaceNodes.{NextIsGood, lower-down-brings, lower-ready-brings, mirror-up-brings}
 
 -- CHANGES
@@ -36,11 +37,11 @@ leaving-peace w o h l = changed-peace w o h (some-weaker (Leaves w) Brings o (λ
 
 down-taken-peace : (w : World) (c : ℕ) (x : Next) → Peaceful w → Peaceful (down_taken w c x)
 unfolding down_taken
-down-taken-peace w c x h = record { lives = h.lives; born = h.born; readers = h.readers; primaries = h.primaries; uppers = h.uppers; lowers = h.lowers; downs = h.downs; ups = h.ups; sound = h.sound; whole = h.whole; own = h.own; leases = h.leases }
+down-taken-peace w c x h = record { lives = h.lives; born = h.born; primaries = h.primaries; uppers = h.uppers; lowers = h.lowers; downs = h.downs; ups = h.ups; sound = h.sound; whole = h.whole; own = h.own; leases = h.leases }
 
 up-taken-peace : (w : World) (c : ℕ) (x : Next) → Peaceful w → Peaceful (up_taken w c x)
 unfolding up_taken
-up-taken-peace w c x h = record { lives = h.lives; born = h.born; readers = h.readers; primaries = h.primaries; uppers = h.uppers; lowers = h.lowers; downs = h.downs; ups = h.ups; sound = h.sound; whole = h.whole; own = h.own; leases = h.leases }
+up-taken-peace w c x h = record { lives = h.lives; born = h.born; primaries = h.primaries; uppers = h.uppers; lowers = h.lowers; downs = h.downs; ups = h.ups; sound = h.sound; whole = h.whole; own = h.own; leases = h.leases }
 
 next-down-good : (w : World) (c : ℕ) (x : Next) → Peaceful w → next_down w c ≡ Some x → NextIsGood x
 next-down-good w c (message m) h e = h.downs c (w.down_marks c).taken m (next-found (w.downs c) (w.down_marks c) m e)
@@ -66,11 +67,11 @@ ready-peace w c h =
     when-each Peaceful (is_served w c) _
     (λ _. changed-peace w (lower_ready (w.lowers c) w c false) h (lower-ready-brings w h c (w.lowers c) (h.lowers c)))
 
-upper-peace : (w : World) (u : Upper) (c : ℕ) (x : Next) → is_of_pipeline u ≡ true → NextIsGood x → Peaceful w → IfSome (changed w (upper_up u w c x false)) Peaceful
+upper-peace : (w : World) (u : Upper) (c : ℕ) (x : Next) → is_of_primary u ≡ false → NextIsGood x → Peaceful w → IfSome (changed w (upper_up u w c x false)) Peaceful
 upper-peace w (by_writer b) c x e good h = leaving-peace w (writer_up w b c x) h (writer-up-leaves w h b c x)
 upper-peace w (by_member d) c x e good h = changed-peace w (mirror_up (w.lowers d) w d x false) h (mirror-up-brings w h d (w.lowers d) x good)
-upper-peace w (by_reader i) c x e good h = absurd (false≢true e)
-upper-peace w (by_primary i place) c x e good h = absurd (false≢true e)
+upper-peace w (by_reader i) c x e good h = leaving-peace w (reader_up w i c x) h (reader-up-leaves w h i c x)
+upper-peace w (by_primary i place) c x e good h = absurd (false≢true (sym e))
 
 up-as-peace : (w : World) (c : ℕ) (o : Option Next) → next_up w c ≡ o → Peaceful w → IfSome (up_as w c false o) Peaceful
 up-as-peace w c None e h = tt
@@ -84,7 +85,7 @@ up-peace w c h = when-each Peaceful (nat_lt c w.next_conn) _ (λ _. up-as-peace 
 
 own-peace : (w : World) (s : OwnStep) → is_plain_step s ≡ true → Peaceful w → IfSome (changed w (own_change w s)) Peaceful
 own-peace w (own.Writer b takes answered) e h = leaving-peace w (own_writer w b.0 takes answered) h (own-leaves w h b.0 takes answered)
-own-peace w (own.Reader i n r answered) e h = absurd (false≢true e)
+own-peace w (own.Reader i n r answered) e h = leaving-peace w (own_reader w i n.0 r answered) h (own-reader-leaves w h i n.0 r answered)
 own-peace w (own.Recover i n b members answers) e h = absurd (false≢true e)
 own-peace w (own.Primary i) e h = absurd (false≢true e)
 
@@ -106,7 +107,7 @@ outcome-peace w (event.Restart n list) p h = absurd (false≢true p)
 
 after-peace : (w : World) (e : Event) (o : Option World) → Peaceful w → IfSome o Peaceful → Peaceful (after_event w e o)
 after-peace w e None h n = h
-after-peace w e (Some v) h n = record { lives = n.lives; born = n.born; readers = n.readers; primaries = n.primaries; uppers = n.uppers; lowers = n.lowers; downs = n.downs; ups = n.ups; sound = n.sound; whole = n.whole; own = n.own; leases = n.leases }
+after-peace w e (Some v) h n = record { lives = n.lives; born = n.born; primaries = n.primaries; uppers = n.uppers; lowers = n.lowers; downs = n.downs; ups = n.ups; sound = n.sound; whole = n.whole; own = n.own; leases = n.leases }
 
 pub happens-peace : (w : World) (e : Event) → is_plain e ≡ true → Peaceful w → Peaceful (happens w e)
 unfolding happens
@@ -121,7 +122,6 @@ unfolding start
 start-peace nodes = record {
   lives = λ n. refl;
   born = λ c. refl;
-  readers = λ i. refl;
   primaries = λ i. refl;
   uppers = λ c. refl;
   lowers = λ c. refl;

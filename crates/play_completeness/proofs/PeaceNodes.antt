@@ -1,5 +1,5 @@
 -- What the lower ends of connections do, and members with their mirrors, keeps the peace.
-use Rattle.std.proofs.Common.{◌≡◌, ℕ, ℤ, Bool, true, false, List, Option, Some, None, IfSome, Result, Ok, Err, refl, sym}
+use Rattle.std.proofs.Common.{◌≡◌, ℕ, ℤ, Bool, true, false, List, [], ◌∷◌, Option, Some, None, IfSome, Result, Ok, Err, refl, sym}
 use Rattle.std.specs.Prelude.{◌==◌}
 use Rattle.std.specs.Result.{IfOk}
 use Rattle.std.proofs.lemmas.Bool.{false≢true}
@@ -7,6 +7,8 @@ use Rattle.op_headers.specs.declared.ops.Op.{Op}
 use Rattle.op_headers.specs.declared.ops.Op.TheVariants as op
 use Rattle.op_headers.specs.Values.{WriteFields}
 use Rattle.node_refs.specs.NodeRefs.{ref_of}
+use Rattle.packet_codec.specs.declared.packets.Packet.{Packet}
+use Rattle.read_core.specs.Servings.{ServingState, accepting, refusing, read_at, piece_at, next_call}
 use Rattle.request_refusals.specs.declared.refusals.RequestRefusal.{RequestRefusal}
 use Rattle.replica_core.specs.declared.ack_queue.PendingPacket.{PendingPacket}
 use Rattle.replica_core.specs.declared.events.Event.{Event}
@@ -34,17 +36,17 @@ use Rattle.member_core.specs.Steps.{Step, Setup, step, replica_after, oldest_at,
 use Rattle.world.specs.Parts.{Message, request, packet, ack, response, read_status, recovery_answer, FullMember, Lower, idle, writes, serves, recovers, ended_below}
 use Rattle.world.specs.Worlds.{World}
 use Rattle.world.specs.Connections.{Next, message, the_end, is_alive}
-use Rattle.world.specs.Nodes.{node_of, replica_at, closing, above_of, below_of, sent_up, passed, block_of, member_change, turn_change, pending_at, takes_next, member_down, member_up, ready_change, member_ready, mirror_node, is_asked, mirror_dial, dials_of, member_dials, lower_of, setup_change, write_request, first_message, lower_down, lower_ready, mirror_up}
+use Rattle.world.specs.Nodes.{node_of, replica_at, closing, above_of, below_of, sent_up, passed, block_of, member_change, turn_change, pending_at, takes_next, member_down, member_up, ready_change, member_ready, mirror_node, is_asked, mirror_dial, dials_of, member_dials, lower_of, setup_change, write_request, read_change, piece_as, serve_change, first_message, lower_down, lower_ready, mirror_up}
 use Rattle.world_laws.proofs.FactTables.{if-each, when-each}
 use Rattle.world_laws.proofs.ByteFrame.{Each, each-nil, each-one}
-use Rattle.play_completeness.specs.Plain.{is_of_write, Peaceful}
+use Rattle.play_completeness.specs.Plain.{is_of_recovery, Peaceful}
 use Rattle.play_completeness.proofs.OwnReplicas.{Calm, IsPipedCall, row-calm, IsPiped, request-piped}
 use Rattle.play_completeness.proofs.RowRules.{IsMemberEvent, IsMemberCall}
 use Rattle.play_completeness.proofs.PeaceFrame.{IsGood, IsGoodDial, Brings, calm-at, each-sent}
 
 -- MESSAGES
 
--- what stands next is no message that asks for anything else
+-- what stands next is no message that asks for a part of a recovery
 abbrev pub NextIsGood : Next → Type 0
 NextIsGood (message m) = IsGood m
 NextIsGood the_end = Unit {0}
@@ -160,7 +162,6 @@ after-calm r (Some e) p h = row-calm r e (member-piped e p) h
 module _ (w : World) (h : Peaceful w) (c : ℕ) where
   member-brings : (m : FullMember) (x : Next) (s : Step) → NextIsGood x → Calm s.replica.known → Brings (member_change w c m x s (w.breaks (node_of w c) (block_of m.fields)))
   member-brings m x s good calm = record {
-    reader = h.readers 0;
     primary = h.primaries 0;
     replica = calm;
     broke = h.whole (node_of w c) (block_of m.fields);
@@ -211,13 +212,12 @@ module _ (w : World) (h : Peaceful w) (c : ℕ) where
   member-dials None f = each-nil IsGoodDial
   member-dials (Some m) f = mirror-dials m.mirror f
 
-  lower-of-write : (o : Option MemberState) (f : WriteFields) (next : ℕ) → is_of_write (lower_of o f next) ≡ true
+  lower-of-write : (o : Option MemberState) (f : WriteFields) (next : ℕ) → is_of_recovery (lower_of o f next) ≡ false
   lower-of-write None f next = refl
   lower-of-write (Some m) f next = refl
 
   setup-brings : (f : WriteFields) (s : Setup) → Calm s.replica.known → Brings (setup_change w c f s (w.breaks (node_of w c) (block_of f)))
   setup-brings f s calm = record {
-    reader = h.readers 0;
     primary = h.primaries 0;
     replica = calm;
     broke = h.whole (node_of w c) (block_of f);
@@ -246,7 +246,6 @@ module _ (w : World) (h : Peaceful w) (c : ℕ) where
 
   closing-brings : Brings (closing w c)
   closing-brings = record {
-    reader = h.readers 0;
     primary = h.primaries 0;
     replica = calm-at w 0 0 h;
     broke = h.whole 0 0;
@@ -257,9 +256,52 @@ module _ (w : World) (h : Peaceful w) (c : ℕ) where
     leases = h.leases;
   }
 
+  -- READS
+
+  read-brings : (b : ℕ) (served : Result ServingState RequestRefusal) → Brings (read_change w c b served)
+  read-brings b (Ok s) = record {
+    primary = h.primaries 0;
+    replica = calm-at w 0 0 h;
+    broke = h.whole 0 0;
+    lower = refl;
+    downs = λ d. each-nil IsGood;
+    ups = each-sent (Some c) (response (accepting s) ∷ []) (each-one IsGood _ refl);
+    dials = each-nil IsGoodDial;
+    leases = h.leases;
+  }
+  read-brings b (Err r) = record {
+    primary = h.primaries 0;
+    replica = calm-at w 0 0 h;
+    broke = h.whole 0 0;
+    lower = refl;
+    downs = λ d. each-nil IsGood;
+    ups = each-sent (Some c) (response (refusing r) ∷ []) (each-one IsGood _ refl);
+    dials = each-nil IsGoodDial;
+    leases = h.leases;
+  }
+
+  piece-brings : (b : ℕ) (s : ServingState) (o : Option Packet) → Brings (piece_as w c b s o)
+  piece-brings b s None = closing-brings
+  piece-brings b s (Some p) = record {
+    primary = h.primaries 0;
+    replica = calm-at w 0 0 h;
+    broke = h.whole 0 0;
+    lower = refl;
+    downs = λ d. each-nil IsGood;
+    ups = each-sent (Some c) (packet p ∷ []) (each-one IsGood _ refl);
+    dials = each-nil IsGoodDial;
+    leases = h.leases;
+  }
+
+  serve-brings : (b : ℕ) (s : ServingState) (o : Option Event) → IfSome (serve_change w c b s o false) Brings
+  serve-brings b s None = tt
+  serve-brings b s (Some e) = piece-brings b (piece_at s (replica_at w c b)).serving (piece_at s (replica_at w c b)).packet
+
+  -- LOWER ENDS
+
   op-brings : (o : Op) (answered : Bool) → IsGood (request o) → IfSome (first_message w c (request o) answered false) Brings
   op-brings (op.Write f) answered good = write-brings f answered
-  op-brings (op.Read r) answered good = absurd (false≢true (sym good))
+  op-brings (op.Read r) answered good = read-brings r.block.block.0 (read_at r (replica_at w c r.block.block.0))
   op-brings (op.Recovery r) answered good = absurd (false≢true (sym good))
   op-brings (op.Transfer r) answered good = closing-brings
   op-brings (op.Checksum r) answered good = closing-brings
@@ -272,18 +314,18 @@ module _ (w : World) (h : Peaceful w) (c : ℕ) where
   first-brings (read_status s) answered good = closing-brings
   first-brings (recovery_answer a) answered good = closing-brings
 
-  pub lower-down-brings : (l : Lower) (x : Next) (answered : Bool) → is_of_write l ≡ true → NextIsGood x → IfSome (lower_down l w c x answered false) Brings
+  pub lower-down-brings : (l : Lower) (x : Next) (answered : Bool) → is_of_recovery l ≡ false → NextIsGood x → IfSome (lower_down l w c x answered false) Brings
   lower-down-brings idle (message m) answered e good = first-brings m answered good
   lower-down-brings idle the_end answered e good = closing-brings
   lower-down-brings (writes m) x answered e good = down-brings m x good
-  lower-down-brings (serves b s) x answered e good = absurd (false≢true e)
-  lower-down-brings recovers x answered e good = absurd (false≢true e)
+  lower-down-brings (serves b s) x answered e good = closing-brings
+  lower-down-brings recovers x answered e good = absurd (false≢true (sym e))
   lower-down-brings ended_below x answered e good = tt
 
-  pub lower-ready-brings : (l : Lower) → is_of_write l ≡ true → IfSome (lower_ready l w c false) Brings
+  pub lower-ready-brings : (l : Lower) → is_of_recovery l ≡ false → IfSome (lower_ready l w c false) Brings
   lower-ready-brings idle e = tt
   lower-ready-brings (writes m) e = ready-brings m
-  lower-ready-brings (serves b s) e = absurd (false≢true e)
+  lower-ready-brings (serves b s) e = serve-brings b s (next_call s)
   lower-ready-brings recovers e = tt
   lower-ready-brings ended_below e = tt
 

@@ -41,7 +41,6 @@ module _ (w : World) (h : Peaceful w) where
   -- a change of a writer alone
   writer-leaves : (b : ℕ) (x : WriterRecord) → Leaves w (writer_change w b x)
   writer-leaves b x = record {
-    reader = refl;
     primary = refl;
     replica = refl;
     broke = refl;
@@ -53,9 +52,8 @@ module _ (w : World) (h : Peaceful w) where
   }
 
   did-leaves : (b : ℕ) (waits : Option Waiting) (a : Action) (x : WriterRecord) (bytes : List ℕ) → IfSome (did w b waits a x bytes) (Leaves w)
-  did-leaves b waits action.Took x bytes = record { reader = refl; primary = refl; replica = refl; broke = refl; lower = refl; downs = λ c. each-nil IsGood; ups = λ c. each-nil IsGood; dials = each-nil IsGoodDial; leases = h.leases }
+  did-leaves b waits action.Took x bytes = record { primary = refl; replica = refl; broke = refl; lower = refl; downs = λ c. each-nil IsGood; ups = λ c. each-nil IsGood; dials = each-nil IsGoodDial; leases = h.leases }
   did-leaves b waits (action.Send p) x bytes = record {
-    reader = refl;
     primary = refl;
     replica = refl;
     broke = refl;
@@ -65,7 +63,7 @@ module _ (w : World) (h : Peaceful w) where
     dials = each-nil IsGoodDial;
     leases = h.leases;
   }
-  did-leaves b waits (action.Answered n a) x bytes = record { reader = refl; primary = refl; replica = refl; broke = refl; lower = refl; downs = λ c. each-nil IsGood; ups = λ c. each-nil IsGood; dials = each-nil IsGoodDial; leases = h.leases }
+  did-leaves b waits (action.Answered n a) x bytes = record { primary = refl; replica = refl; broke = refl; lower = refl; downs = λ c. each-nil IsGood; ups = λ c. each-nil IsGood; dials = each-nil IsGoodDial; leases = h.leases }
   did-leaves b waits action.Wait x bytes = tt
   did-leaves b waits (action.Ask c) x bytes = tt
   did-leaves b waits (action.Dial to r) x bytes = tt
@@ -73,7 +71,6 @@ module _ (w : World) (h : Peaceful w) where
 
   dialled-leaves : (b : ℕ) (x : WriterRecord) (to : NodeId) (r : Op) (answered : Bool) → IsGood (request r) → Leaves w (dialled_change w b x to r answered)
   dialled-leaves b x to r true good = record {
-    reader = refl;
     primary = refl;
     replica = refl;
     broke = refl;
@@ -83,7 +80,7 @@ module _ (w : World) (h : Peaceful w) where
     dials = each-one IsGoodDial _ (refl, good, h.lives to.0);
     leases = h.leases;
   }
-  dialled-leaves b x to r false good = record { reader = refl; primary = refl; replica = refl; broke = refl; lower = refl; downs = λ c. each-nil IsGood; ups = λ c. each-nil IsGood; dials = each-nil IsGoodDial; leases = h.leases }
+  dialled-leaves b x to r false good = record { primary = refl; replica = refl; broke = refl; lower = refl; downs = λ c. each-nil IsGood; ups = λ c. each-nil IsGood; dials = each-nil IsGoodDial; leases = h.leases }
 
   dialling-leaves : (b : ℕ) (x : WriterRecord) (s : Setup) (stamp : Stamp) (members : List NodeId) (answered : Bool) → Leaves w (dialling w b x (dial_step_as x s stamp members).action answered)
   unfolding request_for
@@ -171,7 +168,6 @@ writers-call x (call.CommitSync b id bytes members) h = tt
 
 asks-leaves : (w : World) → Peaceful w → (b : ℕ) (a : Action) → Asking (w.writers b).known a → IfSome (writer_asks a w b) (Leaves w)
 asks-leaves w h b (action.Ask c) k = record {
-  reader = refl;
   primary = refl;
   replica = refl;
   broke = refl;

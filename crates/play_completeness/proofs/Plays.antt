@@ -30,20 +30,16 @@ use Rattle.play_model.specs.Dues.{Queues, is_due, dues, own_events, action_of, d
 use Rattle.play_model.specs.Faults.{befalls}
 use Rattle.play_model.specs.Draws.{drawn, happened, advanced, drawn_from, draw, draws}
 use Rattle.play_scripts.specs.Failures.{is_failure, HaveNoFailures}
-use Rattle.play_scripts.specs.Reads.{is_read, HaveNoReads}
+use Rattle.play_scripts.specs.Reads.{is_read}
 use Rattle.play_model.specs.Lines.{stepped, step_due, pipeline_conn, cut_at, stop_at, start_at, PlaysLine, PlaysLines, PlaysFrom, Plays}
 use Rattle.play_model.specs.Laws.{AskAmong, RecoveryAmong, IsListed}
 use Rattle.play_model.proofs.ListedLemmas.{listed_due}
 use Rattle.play_completeness.specs.Plain.{ArePlain, PlaysArePlain}
 use Rattle.play_completeness.proofs.Unarmed.{befalls-due}
 
--- READERS
+-- READERS AND PRIMARIES
 
--- where no line has asked to read, no reader asks
-pub none-asked : {A : Type 0} (asks : List ReadAsk) (ask : ReadAsk) → asks ≡ [] → Has asks ask → A
-none-asked asks ask none has = absurd (none-some ask (subst (λ (xs : List ReadAsk). slice_get xs has.place ≡ Some ask) none has.there))
-
--- nor does a primary recover where no line has asked to
+-- where no line has asked to recover, no primary does
 pub none-recovered : {A : Type 0} (rs : List Recovery) (r : Recovery) → rs ≡ [] → Has rs r → A
 none-recovered rs r none has = absurd (none-some r (subst (λ (xs : List Recovery). slice_get xs has.place ≡ Some r) none has.there))
 
@@ -121,11 +117,10 @@ module _ (Q : PlayState → Type 0) where
   false-true true e f = cc
   false-true false e f = cc
 
-  -- no line makes anything fail, and none asks to read
-  pub sound-keep : (lines : List ScriptLine) → HaveNoFailures lines → HaveNoReads lines → AllKeep lines
-  sound-keep [] sound unread = tt
-  sound-keep (l ∷ lines) sound unread =
-      (record { fails = λ e. false-true (is_failure l.instruction) sound.0 e; reads = λ e. false-true (is_read l.instruction) unread.0 e }, sound-keep lines sound.1 unread.1)
+  -- no line makes anything fail
+  pub sound-keep : ReadsKeep → (lines : List ScriptLine) → HaveNoFailures lines → AllKeep lines
+  sound-keep r [] sound = tt
+  sound-keep r (l ∷ lines) sound = (record { fails = λ e. false-true (is_failure l.instruction) sound.0 e; reads = λ _. r }, sound-keep r lines sound.1)
 
   pub any-keep : FailuresKeep → ReadsKeep → (lines : List ScriptLine) → AllKeep lines
   any-keep f r [] = tt
@@ -182,17 +177,16 @@ own-plain (action.Send p) b queue = (refl, tt)
 own-plain (action.Answered n a) b queue = (refl, tt)
 own-plain action.Memory b queue = (refl, tt)
 
-pub due-plain : (w : World) (queues : Queues) (d : Due) → AskAmong [] d → RecoveryAmong [] d → ArePlain (due_events w queues d)
-due-plain w queues (due.Own b) asked recovers = own-plain (action_of w b) b.0 (queues b.0)
-due-plain w queues (due.Reader ask) asked recovers = none-asked [] ask refl asked
-due-plain w queues (due.Primary r) asked recovers = none-recovered [] r refl recovers
-due-plain w queues (due.Down c) asked recovers = (refl, tt)
-due-plain w queues (due.Ready c) asked recovers = (refl, tt)
-due-plain w queues (due.Up c) asked recovers = (refl, tt)
+pub due-plain : (w : World) (queues : Queues) (d : Due) → RecoveryAmong [] d → ArePlain (due_events w queues d)
+due-plain w queues (due.Own b) recovers = own-plain (action_of w b) b.0 (queues b.0)
+due-plain w queues (due.Reader ask) recovers = (refl, tt)
+due-plain w queues (due.Primary r) recovers = none-recovered [] r refl recovers
+due-plain w queues (due.Down c) recovers = (refl, tt)
+due-plain w queues (due.Ready c) recovers = (refl, tt)
+due-plain w queues (due.Up c) recovers = (refl, tt)
 
--- the events are, no line has asked to read or to recover, and no write is to fail
+-- the events are, no line has asked to recover, and no write is to fail
 record Plain (p : PlayState) : Type 0 where
-  asks : p.asks ≡ []
   recoveries : p.recoveries ≡ []
   unarmed : (n : ℕ) → p.faults n ≡ 0
   plain : ArePlain p.events
@@ -200,22 +194,21 @@ record Plain (p : PlayState) : Type 0 where
 after-plain : (p : PlayState) (d : Due) → Among p d → Plain p → Plain (after_due p d)
 unfolding after_due
 after-plain p d asked h = record {
-  asks = h.asks;
   recoveries = h.recoveries;
   unarmed = h.unarmed;
   plain = plain-join p.events (due_events (world_of p) p.queues d) h.plain
-      (due-plain (world_of p) p.queues d (subst (λ (xs : List ReadAsk). AskAmong xs d) h.asks asked.0) (subst (λ (xs : List Recovery). RecoveryAmong xs d) h.recoveries asked.1));
+      (due-plain (world_of p) p.queues d (subst (λ (xs : List Recovery). RecoveryAmong xs d) h.recoveries asked.1));
 }
 
 befalls-plain : (p : PlayState) (d : Due) → Among p d → Plain p → Plain (befalls p d)
 befalls-plain p d asked h = subst Plain (sym (befalls-due p d h.unarmed)) (after-plain p d asked h)
 
 pub plays-plain : PlaysArePlain
-plays-plain script end sound unread s =
+plays-plain script end sound s =
     let h : Plain end = play-keeps Plain (record {
-      advances = λ p h. record { asks = h.asks; recoveries = h.recoveries; unarmed = h.unarmed; plain = h.plain };
-      orders = λ p b c h. record { asks = h.asks; recoveries = h.recoveries; unarmed = h.unarmed; plain = h.plain };
-      rules = λ p b r h. record { asks = h.asks; recoveries = h.recoveries; unarmed = h.unarmed; plain = h.plain };
+      advances = λ p h. record { recoveries = h.recoveries; unarmed = h.unarmed; plain = h.plain };
+      orders = λ p b c h. record { recoveries = h.recoveries; unarmed = h.unarmed; plain = h.plain };
+      rules = λ p b r h. record { recoveries = h.recoveries; unarmed = h.unarmed; plain = h.plain };
       goes = λ p d _ asked h. befalls-plain p d asked h;
-    }) (λ nodes seed. record { asks = refl; recoveries = refl; unarmed = λ n. refl; plain = tt }) script end (sound-keep Plain script sound unread) s in
+    }) (λ nodes seed. record { recoveries = refl; unarmed = λ n. refl; plain = tt }) script end (sound-keep Plain (λ p ask h. record { recoveries = h.recoveries; unarmed = h.unarmed; plain = h.plain }) script sound) s in
     h.plain

@@ -50,7 +50,7 @@ use Rattle.world_orders.proofs.Takes.{takes-in-order}
 use Rattle.play_model.specs.Dues.{is_open}
 use Rattle.play_completeness.specs.Plain.{Peaceful}
 use Rattle.play_completeness.specs.Streams.{reach_under, reach_in}
-use Rattle.play_completeness.specs.Links.{MirrorFits, IsGoodAck, ActsWell, MemberWell, LowerWell, Link, Links}
+use Rattle.play_completeness.specs.Links.{MirrorFits, IsGoodAck, ActsWell, MemberWell, LowerWell, Link, InPipeline, Links}
 use Rattle.play_completeness.specs.Turning.{ReadyKeepsLinks}
 use Rattle.play_completeness.proofs.Peace.{all-peaceful}
 use Rattle.play_completeness.proofs.Rows.{IsWritten, ack-taken}
@@ -58,6 +58,7 @@ use Rattle.play_completeness.proofs.Turned.{Turned, other-kept}
 use Rattle.play_completeness.proofs.TurnWorld.{named, turned-by, down-taken-at}
 use Rattle.play_completeness.proofs.AckTurn.{GoesOn, on-kept, over-kept}
 use Rattle.play_completeness.proofs.DownTurns.{same-marks, is-written, after-links}
+use Rattle.play_completeness.proofs.Pipelines.{piped-before, writing-in}
 
 -- THE MEMBER'S STEP
 
@@ -106,7 +107,7 @@ last-taken K s e rest by pending last sound = ap (λ (o : Option Stream). (reach
 -- A MEMBER WITHOUT A MIRROR
 
 module _ (w : World) (o : Ordered w) (takes : TakesInOrder w) (placed : Placed w) (h : Peaceful w) (says : (c : ℕ) → LowerSays w.past c (w.lowers c)) (filled : Filled w) (links : Links w)
-    (d : ℕ) (m : FullMember) (lt : d < w.next_conn) (is : w.lowers d ≡ writes m) (opened : is_open (writes m) ≡ true) (x : Event) where
+    (d : ℕ) (m : FullMember) (lt : InPipeline w d) (is : w.lowers d ≡ writes m) (opened : is_open (writes m) ≡ true) (x : Event) where
   abbrev R : FullReplica
   R = w.replicas (node_of w d) (block_of m.fields)
 
@@ -158,22 +159,25 @@ module _ (w : World) (o : Ordered w) (takes : TakesInOrder w) (placed : Placed w
 
     own : (last : Bool) → e.last ≡ last → Link (v last) d
     own false q =
-        on-kept w (v false) placed links d m lt is responds m.state (row R (replica_event.Other (core.Ack m.state.conn e.seqno true))) (ack_of e.seqno replies) shuts.Nothing (turned false) (off d) answered (unmoved false) e rest oldest refl good well.receives
+        on-kept w (v false) o placed links d m lt is responds m.state (row R (replica_event.Other (core.Ack m.state.conn e.seqno true))) (ack_of e.seqno replies) shuts.Nothing (turned false) (off d) answered (unmoved false) e rest oldest refl good well.receives
         q refl refl (goes-on R.known _ written.info e rest written.is oldest q row-is)
     own true q =
-        over-kept w (v true) placed links d m lt is responds (record m.state { responds = false }) (row R (replica_event.Other (core.Ack m.state.conn e.seqno true))) (ack_of e.seqno replies) shuts.Both (turned true) (off d) answered (unmoved true) e rest oldest refl good well.receives
+        over-kept w (v true) o placed links d m lt is responds (record m.state { responds = false }) (row R (replica_event.Other (core.Ack m.state.conn e.seqno true))) (ack_of e.seqno replies) shuts.Both (turned true) (off d) answered (unmoved true) e rest oldest refl good well.receives
         q refl refl (last-taken R.known written.stream e rest written.written oldest q (filled.replicas (node_of w d) (block_of m.fields)).full.sound.stream)
 
     pub all : (last : Bool) → e.last ≡ last → Links (v last)
     all last q c lc = go (c == d) refl
       where
-        known : c < w.next_conn
-        known = subst (λ (n : ℕ). c < n) (turned last).conns lc
+        before : c < w.next_conn
+        before = subst (λ (n : ℕ). c < n) (turned last).conns lc.known
+
+        known : InPipeline w c
+        known = piped-before w (v last) c before ((turned last).dialled c before) lc
 
         go : (z : Bool) → (c == d) ≡ z → Link (v last) c
         go true k = subst (λ (n : ℕ). Link (v last) n) (sym (eqb-true c d k)) (own last q)
         go false k =
-            other-kept w (v last) placed links d m lt is responds (closed_by (shuts_at last) side.Responder m.state) (row R (replica_event.Other (core.Ack m.state.conn e.seqno true))) [] (ack (ack_of e.seqno replies) ∷ []) (shuts_at last) (turned last) c known k (off c)
+            other-kept w (v last) o placed links d m lt is responds (closed_by (shuts_at last) side.Responder m.state) (row R (replica_event.Other (core.Ack m.state.conn e.seqno true))) [] (ack (ack_of e.seqno replies) ∷ []) (shuts_at last) (turned last) c known k (off c)
 
   -- WHAT IT DOES
 
@@ -220,7 +224,7 @@ ready-keeps nodes events c m plain links is opened =
     let o : Ordered w = all-ordered nodes events in
     after-links w (event.Ready c) (ready_event w c.0 false) links
     (when-each (λ (v : World). Links (named (event.Ready c) v)) (is_served w c.0) _ (λ k.
-    lower-readies w o (takes-in-order w o) (all-placed nodes events) (all-peaceful nodes events plain) (all-carried nodes events).lowers (all-filled nodes events) links c.0 m (less c.0 w (and-left (nat_lt c.0 w.next_conn) _ k)) is opened (event.Ready c)))
+    lower-readies w o (takes-in-order w o) (all-placed nodes events) (all-peaceful nodes events plain) (all-carried nodes events).lowers (all-filled nodes events) links c.0 m (writing-in w o c.0 m is (less c.0 w (and-left (nat_lt c.0 w.next_conn) _ k))) is opened (event.Ready c)))
   where
     less : (d : ℕ) (w : World) → nat_lt d w.next_conn ≡ true → d < w.next_conn
     less d w k = grind (arith, nat_tests, k)

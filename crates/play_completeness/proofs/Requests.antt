@@ -34,13 +34,14 @@ use Rattle.world_orders.proofs.Frame.{marked}
 use Rattle.world_closings.specs.WorldWriters.Taking.{chain}
 use Rattle.play_model.specs.Dues.{is_open}
 use Rattle.play_completeness.specs.Plain.{Peaceful}
-use Rattle.play_completeness.specs.Links.{MayTake, WaitsWell, LowerWell, IsGoodUp, Link, Links}
+use Rattle.play_completeness.specs.Links.{MayTake, WaitsWell, LowerWell, IsGoodUp, Link, InPipeline, Links}
 use Rattle.play_completeness.proofs.DownTurns.{no-end}
 use Rattle.play_completeness.proofs.NewMember.{member_with, own-kept, mirror-kept}
 use Rattle.play_completeness.proofs.RequestRow.{Opens, opens, opened_row, opened-known, request-taken, stays-open, alone-set-up, asked-set-up, onward}
 use Rattle.play_completeness.proofs.RequestWorld.{after, took-request, one-more, conns-are, new-dialled, new-downs, new-ups, new-idle, new-down, new-up, dial, dial-is, asked-so}
 use Rattle.play_completeness.proofs.TookRequest.{WaitsAlone, others-kept}
 use Rattle.play_completeness.proofs.TurnWorld.{named}
+use Rattle.play_completeness.proofs.Pipelines.{piped-before}
 
 -- TARGETS
 
@@ -71,7 +72,7 @@ port-node n bound le lt =
 -- THE REQUEST
 
 -- What stands next for an end that has taken nothing is its request.
-pub first-is : (w : World) (o : Ordered w) (links : Links w) (c : ℕ) (lc : c < w.next_conn) (y : Message) → w.lowers c ≡ idle → next_down w c ≡ Some (message y) → y ≡ request (op.Write (links c lc).fields)
+pub first-is : (w : World) (o : Ordered w) (links : Links w) (c : ℕ) (lc : InPipeline w c) (y : Message) → w.lowers c ≡ idle → next_down w c ≡ Some (message y) → y ≡ request (op.Write (links c lc).fields)
 first-is w o links c lc y is next =
     let asked : Message = request (op.Write (links c lc).fields) in
     let none : (w.down_marks c).taken ≡ 0 = (subst (λ (l : Lower). IsBelow (w.dialled c).upper (w.down_marks c).taken (w.ups c) l) is (o.below c)).0 in
@@ -79,7 +80,7 @@ first-is w o links c lc y is next =
     let first : slice_get (w.downs c) (w.down_marks c).taken ≡ Some asked = ap (λ (n : ℕ). slice_get (w.downs c) n) none ∙ (links c lc).asked.first in
     same_Some y asked (sym found ∙ first)
 
-module _ (w : World) (o : Ordered w) (placed : Placed w) (h : Peaceful w) (links : Links w) (c : ℕ) (lc : c < w.next_conn) (is : w.lowers c ≡ idle) (alone : WaitsAlone w links c (links c lc).fields)
+module _ (w : World) (o : Ordered w) (placed : Placed w) (h : Peaceful w) (links : Links w) (c : ℕ) (lc : InPipeline w c) (is : w.lowers c ≡ idle) (alone : WaitsAlone w links c (links c lc).fields)
     (unmet : (i : ℕ) → slice_get (chain w.past c (links c lc).fields) (suc i) ≡ Some (Some (node_of w c)) → ⊥) (reach : (t : NodeRef) (rest : List NodeRef) → (links c lc).fields.targets ≡ t ∷ rest → Reaches w t) (e : Event) where
   abbrev f : WriteFields
   f = (links c lc).fields
@@ -146,12 +147,18 @@ module _ (w : World) (o : Ordered w) (placed : Placed w) (h : Peaceful w) (links
     pub last-links : Links v
     last-links k lk = go (k == c) refl
       where
-        known : k < w.next_conn
-        known = let n : v.next_conn ≡ w.next_conn + 0 = conns-are w c f m row_now says b e in omega (arith, n, lk)
+        before : k < w.next_conn
+        before =
+            let n : v.next_conn ≡ w.next_conn + 0 = conns-are w c f m row_now says b e in
+            let l : k < v.next_conn = lk.known in
+            omega (arith, n, l)
+
+        known : InPipeline w k
+        known = piped-before w v k before ((took-request w c f m row_now says b e).dialled k before) lk
 
         go : (q : Bool) → (k == c) ≡ q → Link v k
         go true q = subst (λ (j : ℕ). Link v j) (sym (eqb-true k c q)) own-last
-        go false q = others-kept w v placed links c lc is alone (member_with c f mirror.Nobody None) row_now (sent_up f says) (took-request w c f m row_now says b e) beyond-none k known q
+        go false q = others-kept w v o placed links c lc is alone (member_with c f mirror.Nobody None) row_now (sent_up f says) (took-request w c f m row_now says b e) beyond-none k known q
 
   -- WHERE A MIRROR IS ASKED
 
@@ -196,7 +203,7 @@ module _ (w : World) (o : Ordered w) (placed : Placed w) (h : Peaceful w) (links
     own-asks = own-kept w u o placed links c lc is alone mirror.Asked (Some k) row_now [] (took-request w c f ask row_now None b e) beyond-some x known-now (λ q. none-some k (sym q)) no-message refl asked-one
 
     dialled-is : u.dialled k ≡ (dial z c f g target.node asks at).dialled
-    dialled-is = new-dialled w c f ask row_now None b e placed lc (dial z c f g target.node asks at) (dial-is z c f g target.node asks at)
+    dialled-is = new-dialled w c f ask row_now None b e placed lc.known (dial z c f g target.node asks at) (dial-is z c f g target.node asks at)
 
     mirror-asked : Link u k
     mirror-asked =
@@ -204,24 +211,28 @@ module _ (w : World) (o : Ordered w) (placed : Placed w) (h : Peaceful w) (links
         let ds = dial-is z c f g target.node asks at in
         mirror-kept w u o placed links c lc is alone mirror.Asked (Some k) row_now [] (took-request w c f ask row_now None b e) beyond-some x known-now (λ q. none-some k (sym q)) no-message refl asked-one
         k refl source t rest targets (ap (λ (y : Dialled). y.upper) dialled-is) (target.on ∙ ap (λ (y : Dialled). Some y.to.node) (sym dialled-is))
-        (new-downs w c f ask row_now None b e placed lc d ds) (new-ups w c f ask row_now None b e placed lc d ds) (new-idle w c f ask row_now None b e placed lc d ds)
-        (new-down w c f ask row_now None b e placed lc d ds) (new-up w c f ask row_now None b e placed lc d ds) unmet
+        (new-downs w c f ask row_now None b e placed lc.known d ds) (new-ups w c f ask row_now None b e placed lc.known d ds) (new-idle w c f ask row_now None b e placed lc.known d ds)
+        (new-down w c f ask row_now None b e placed lc.known d ds) (new-up w c f ask row_now None b e placed lc.known d ds) unmet
 
     pub asked-links : Links u
     asked-links j lj = go (j == c) (nat_lt j w.next_conn) refl refl
       where
-        low : nat_lt j w.next_conn ≡ true → j < w.next_conn
-        low q = grind (arith, nat_tests, q)
+        less : nat_lt j w.next_conn ≡ true → j < w.next_conn
+        less q = grind (arith, nat_tests, q)
+
+        low : nat_lt j w.next_conn ≡ true → InPipeline w j
+        low q = piped-before w u j (less q) ((took-request w c f ask row_now None b e).dialled j (less q)) lj
 
         new : nat_lt j w.next_conn ≡ false → j ≡ k
         new q =
             let n : u.next_conn ≡ w.next_conn + 1 = conns-are w c f ask row_now None b e ∙ ap (λ (ds : List Dial). w.next_conn + length ds) (dial-is z c f g target.node asks at) in
             let le : w.next_conn ≤ j = grind (arith, nat_tests, q) in
-            omega (arith, n, le, lj)
+            let l : j < u.next_conn = lj.known in
+            omega (arith, n, le, l)
 
         go : (p q : Bool) → (j == c) ≡ p → nat_lt j w.next_conn ≡ q → Link u j
         go true q s l = subst (λ (i : ℕ). Link u i) (sym (eqb-true j c s)) own-asks
-        go false true s l = others-kept w u placed links c lc is alone (member_with c f mirror.Asked (Some k)) row_now [] (took-request w c f ask row_now None b e) beyond-some j (low l) s
+        go false true s l = others-kept w u o placed links c lc is alone (member_with c f mirror.Asked (Some k)) row_now [] (took-request w c f ask row_now None b e) beyond-some j (low l) s
         go false false s l = subst (λ (i : ℕ). Link u i) (sym (new l)) mirror-asked
 
   -- DELIVERY

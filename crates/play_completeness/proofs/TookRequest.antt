@@ -15,11 +15,13 @@ use Rattle.world.specs.Nodes.{block_of, node_of, replica_at}
 use Rattle.world_laws.specs.Placing.{Placed, IsUpper}
 use Rattle.world_laws.proofs.FactTables.{and-left, and-right}
 use Rattle.world_orders.proofs.Kept.{eqb-itself}
+use Rattle.world_orders.specs.Orders.{Ordered}
 use Rattle.play_model.specs.Dues.{is_open}
 use Rattle.play_completeness.specs.Streams.{packets_in, acks_in, as_pending, reach_in, reach_of}
-use Rattle.play_completeness.specs.Links.{MemberAwaits, Awaits, pending_below, awaited, member_reach, member_rule, reach_below, reach_above, rule_above, MayTake, WaitsWell, WritesWell, MemberWell, LowerWell, Link, Links}
+use Rattle.play_completeness.specs.Links.{MemberAwaits, Awaits, pending_below, awaited, member_reach, member_rule, reach_below, reach_above, rule_above, MayTake, WaitsWell, WritesWell, MemberWell, LowerWell, Link, InPipeline, Links}
 use Rattle.play_completeness.proofs.LinkFrame.{link-same}
 use Rattle.play_completeness.proofs.Turned.{sent-off, same-writes, never-both}
+use Rattle.play_completeness.proofs.Pipelines.{writing-in}
 
 -- What an idle end that takes its request makes of the world: the member, its replica, and what it answers. The
 -- connection that it dials, if it does, comes behind all others.
@@ -43,9 +45,9 @@ idle-no-member m e = cc
 
 -- Of one block only this connection waits to be asked.
 pub record WaitsAlone (w : World) (links : Links w) (c : ℕ) (f : WriteFields) : Type 0 where
-  pub each : (d : ℕ) (ld : d < w.next_conn) → w.lowers d ≡ idle → block_of (links d ld).fields ≡ block_of f → d ≡ c
+  pub each : (d : ℕ) (ld : InPipeline w d) → w.lowers d ≡ idle → block_of (links d ld).fields ≡ block_of f → d ≡ c
 
-module _ (w v : World) (placed : Placed w) (links : Links w) (c : ℕ) (lc : c < w.next_conn) (is : w.lowers c ≡ idle) (alone : WaitsAlone w links c (links c lc).fields)
+module _ (w v : World) (o : Ordered w) (placed : Placed w) (links : Links w) (c : ℕ) (lc : InPipeline w c) (is : w.lowers c ≡ idle) (alone : WaitsAlone w links c (links c lc).fields)
     (m : FullMember) (r : FullReplica) (sent : List Message) (t : TookRequest w v c (links c lc).fields m r sent) (beyond : (k : ℕ) → m.mirror ≡ Some k → w.next_conn ≤ k) where
   abbrev f : WriteFields
   f = (links c lc).fields
@@ -72,7 +74,7 @@ module _ (w v : World) (placed : Placed w) (links : Links w) (c : ℕ) (lc : c <
           absurd (apart n_is b_is)
 
   -- the replica of a member that acts
-  other-stays : (k : ℕ) (lk : k < w.next_conn) → (x : FullMember) → w.lowers k ≡ writes x → x.state.responds ≡ true → v.replicas (node_of w k) (block_of (links k lk).fields) ≡ w.replicas (node_of w k) (block_of (links k lk).fields)
+  other-stays : (k : ℕ) (lk : InPipeline w k) → (x : FullMember) → w.lowers k ≡ writes x → x.state.responds ≡ true → v.replicas (node_of w k) (block_of (links k lk).fields) ≡ w.replicas (node_of w k) (block_of (links k lk).fields)
   other-stays k lk x at acts =
       let l : Link w k = links k lk in
       let well : MemberWell w k l.fields l.rule x = subst (λ (y : Lower). LowerWell w k l.fields l.rule y) at l.lower in
@@ -80,12 +82,12 @@ module _ (w v : World) (placed : Placed w) (links : Links w) (c : ℕ) (lc : c <
       let same : w.replicas (node_of w k) (block_of l.fields) ≡ w.replicas (node_of w c) (block_of f) = ap (λ (n : ℕ). w.replicas n (block_of l.fields)) n_is ∙ ap (w.replicas (node_of w c)) b_is in
       never-both (setup_with f.stage) f rule l.rule k l.fields (w.replicas (node_of w c) (block_of f)) own-may (subst (λ (y : FullReplica). WritesWell k l.fields l.rule y) same (well.acts acts).writes))
 
-  other-fields : (k : ℕ) (lk : k < w.next_conn) → (x : FullMember) → w.lowers k ≡ writes x → x.fields ≡ (links k lk).fields
+  other-fields : (k : ℕ) (lk : InPipeline w k) → (x : FullMember) → w.lowers k ≡ writes x → x.fields ≡ (links k lk).fields
   other-fields k lk x at = (subst (λ (y : Lower). LowerWell w k (links k lk).fields (links k lk).rule y) at (links k lk).lower).fields_are
 
-  other-at : (k : ℕ) (lk : k < w.next_conn) → (x : FullMember) → w.lowers k ≡ writes x → x.state.responds ≡ true → replica_at v k (block_of x.fields) ≡ replica_at w k (block_of x.fields)
+  other-at : (k : ℕ) (lk : InPipeline w k) → (x : FullMember) → w.lowers k ≡ writes x → x.state.responds ≡ true → replica_at v k (block_of x.fields) ≡ replica_at w k (block_of x.fields)
   other-at k lk x at acts =
-      ap (λ (y : Dialled). v.replicas y.to.node (block_of x.fields)) (t.dialled k lk)
+      ap (λ (y : Dialled). v.replicas y.to.node (block_of x.fields)) (t.dialled k lk.known)
       ∙ subst (λ (g : WriteFields). v.replicas (node_of w k) (block_of g) ≡ w.replicas (node_of w k) (block_of g)) (sym (other-fields k lk x at)) (other-stays k lk x at acts)
 
   -- WHOEVER AWAITS ANOTHER CONNECTION
@@ -135,7 +137,7 @@ module _ (w v : World) (placed : Placed w) (links : Links w) (c : ℕ) (lc : c <
   )
   above-same k (by_member e) within a =
       let same : v.lowers e ≡ w.lowers e = t.lowers e (not-own e a.member a.is) in
-      let at : replica_at v e (block_of a.member.fields) ≡ replica_at w e (block_of a.member.fields) = other-at e within a.member a.is (acting e k a) in (
+      let at : replica_at v e (block_of a.member.fields) ≡ replica_at w e (block_of a.member.fields) = other-at e (writing-in w o e a.member a.is within) a.member a.is (acting e k a) in (
         ap (pending_below v e) (same ∙ a.is) ∙ (ap (λ (x : FullReplica). if a.member.state.responds then x.known.pending else []) at ∙ sym (ap (pending_below w e) a.is)),
         ap (member_reach v e) (same ∙ a.is) ∙ (ap (λ (x : FullReplica). reach_in x.known) at ∙ sym (ap (member_reach w e) a.is)),
         ap (member_rule v e) (same ∙ a.is) ∙ (ap (λ (x : FullReplica). rule_in x.known) at ∙ sym (ap (member_rule w e) a.is)),
@@ -148,7 +150,7 @@ module _ (w v : World) (placed : Placed w) (links : Links w) (c : ℕ) (lc : c <
   ups-same : (k : ℕ) → (k == c) ≡ false → v.ups k ≡ w.ups k
   ups-same k other = t.ups k ∙ (ap (λ (ms : List Message). w.ups k ++ ms) (sent-off (Some c) sent k other) ∙ append-nil (w.ups k))
 
-  pending-same : (k : ℕ) (lk : k < w.next_conn) → (l : Lower) → w.lowers k ≡ l → pending_below v k l ≡ pending_below w k l
+  pending-same : (k : ℕ) (lk : InPipeline w k) → (l : Lower) → w.lowers k ≡ l → pending_below v k l ≡ pending_below w k l
   pending-same k lk (writes x) at = go x.state.responds refl
     where
       go : (b : Bool) → x.state.responds ≡ b → pending_below v k (writes x) ≡ pending_below w k (writes x)
@@ -159,20 +161,20 @@ module _ (w v : World) (placed : Placed w) (links : Links w) (c : ℕ) (lc : c <
   pending-same k lk recovers at = refl
   pending-same k lk ended_below at = refl
 
-  reach-below-same : (k : ℕ) (lk : k < w.next_conn) → (l : Lower) → w.lowers k ≡ l → is_open l ≡ true → reach_below v k (links k lk).fields l ≡ reach_below w k (links k lk).fields l
+  reach-below-same : (k : ℕ) (lk : InPipeline w k) → (l : Lower) → w.lowers k ≡ l → is_open l ≡ true → reach_below v k (links k lk).fields l ≡ reach_below w k (links k lk).fields l
   reach-below-same k lk (writes x) at acts = ap (λ (y : FullReplica). reach_in y.known) (other-at k lk x at (and-right x.state.receives x.state.responds acts))
   reach-below-same k lk idle at acts = refl
   reach-below-same k lk (serves b s) at acts = refl
   reach-below-same k lk recovers at acts = refl
   reach-below-same k lk ended_below at acts = refl
 
-  pub others-kept : (k : ℕ) (lk : k < w.next_conn) → (k == c) ≡ false → Link v k
+  pub others-kept : (k : ℕ) (lk : InPipeline w k) → (k == c) ≡ false → Link v k
   others-kept k lk other =
       let u : Upper = (w.dialled k).upper in
       link-same w v k (links k lk) (record {
         below = record {
-          dialled = t.dialled k lk;
-          downs = t.downs k lk;
+          dialled = t.dialled k lk.known;
+          downs = t.downs k lk.known;
           ups = ups-same k other;
           down_end = t.down_end k;
           up_end = t.up_end k;
@@ -183,14 +185,14 @@ module _ (w v : World) (placed : Placed w) (links : Links w) (c : ℕ) (lc : c <
           replica = λ x at acts. other-stays k lk x at acts;
         };
         onward = awaits-on k u;
-        back = awaits-back k lk u;
+        back = awaits-back k lk.known u;
         carry = λ a.
-            let s = above-same k u (placed.dialled k lk).upper a in
+            let s = above-same k u (placed.dialled k lk.known).upper a in
             record {
               waits = s.0;
               acks = ap (λ (n : ℕ). acks_in (drop n (v.ups k))) (t.up_taken k) ∙ ap (λ (ms : List Message). acks_in (drop (w.up_marks k).taken ms)) (ups-same k other);
               pending = pending-same k lk (w.lowers k) refl;
-              packets = ap (λ (n : ℕ). packets_in (drop n (v.downs k))) (t.down_taken k other) ∙ ap (λ (ms : List Message). packets_in (drop (w.down_marks k).taken ms)) (t.downs k lk);
+              packets = ap (λ (n : ℕ). packets_in (drop n (v.downs k))) (t.down_taken k other) ∙ ap (λ (ms : List Message). packets_in (drop (w.down_marks k).taken ms)) (t.downs k lk.known);
               below = reach-below-same k lk (w.lowers k) refl;
               above = s.1;
               rule = s.2;

@@ -24,10 +24,12 @@ use Rattle.world.specs.Nodes.{shut_by, block_of, node_of, replica_at}
 use Rattle.world_laws.specs.Placing.{Placed, IsUpper}
 use Rattle.world_laws.proofs.FactTables.{and-left, and-right}
 use Rattle.world_orders.proofs.Kept.{eqb-itself}
+use Rattle.world_orders.specs.Orders.{Ordered}
 use Rattle.play_model.specs.Dues.{is_open}
 use Rattle.play_completeness.specs.Streams.{packets_in, acks_in, as_pending, reach_in, reach_of}
-use Rattle.play_completeness.specs.Links.{MemberAwaits, Awaits, pending_below, awaited, member_reach, member_rule, reach_below, reach_above, rule_above, MayTake, WaitsWell, WritesWell, MemberWell, LowerWell, Link, Links}
+use Rattle.play_completeness.specs.Links.{MemberAwaits, Awaits, pending_below, awaited, member_reach, member_rule, reach_below, reach_above, rule_above, MayTake, WaitsWell, WritesWell, MemberWell, LowerWell, Link, InPipeline, Links}
 use Rattle.play_completeness.proofs.LinkFrame.{SameBelow, link-same}
+use Rattle.play_completeness.proofs.Pipelines.{writing-in}
 
 -- What a turn of the member at the lower end of a connection makes of the world: its state, its replica, what it sends
 -- to its mirror and up, and which connections it shuts.
@@ -78,7 +80,7 @@ never-both None f rule rule' d g r x y = x
 one-writer : (c d : ℕ) (f g : WriteFields) (rule rule' : Rule) (r : FullReplica) → WritesWell c f rule r → WritesWell d g rule' r → c ≡ d
 one-writer c d f g rule rule' r x y = sym x.conn ∙ (ap (λ (s : Stream). s.conn.0) (same_Some x.stream y.stream (sym x.written ∙ y.written)) ∙ y.conn)
 
-module _ (w v : World) (placed : Placed w) (links : Links w) (d : ℕ) (m : FullMember) (lt : d < w.next_conn) (is : w.lowers d ≡ writes m) (responds : m.state.responds ≡ true)
+module _ (w v : World) (o : Ordered w) (placed : Placed w) (links : Links w) (d : ℕ) (m : FullMember) (lt : InPipeline w d) (is : w.lowers d ≡ writes m) (responds : m.state.responds ≡ true)
     (new : MemberState) (r : FullReplica) (forwarded sent : List Message) (shut : Shuts) (t : Turned w v d m new r forwarded sent shut) where
   own-link : Link w d
   own-link = links d lt
@@ -101,7 +103,7 @@ module _ (w v : World) (placed : Placed w) (links : Links w) (d : ℕ) (m : Full
           absurd (apart (ap (λ (k : ℕ). w.replicas k b) n_is ∙ ap (w.replicas (node_of w d)) b_is))
 
   -- the replica of another member that acts
-  pub other-stays : (c : ℕ) (lc : c < w.next_conn) → (c == d) ≡ false → (x : FullMember) → w.lowers c ≡ writes x → x.state.responds ≡ true → v.replicas (node_of w c) (block_of (links c lc).fields) ≡ w.replicas (node_of w c) (block_of (links c lc).fields)
+  pub other-stays : (c : ℕ) (lc : InPipeline w c) → (c == d) ≡ false → (x : FullMember) → w.lowers c ≡ writes x → x.state.responds ≡ true → v.replicas (node_of w c) (block_of (links c lc).fields) ≡ w.replicas (node_of w c) (block_of (links c lc).fields)
   other-stays c lc other x at acts =
       let l : Link w c = links c lc in
       let well : MemberWell w c l.fields l.rule x = subst (λ (y : Lower). LowerWell w c l.fields l.rule y) at l.lower in
@@ -109,13 +111,13 @@ module _ (w v : World) (placed : Placed w) (links : Links w) (d : ℕ) (m : Full
       let one : c ≡ d = one-writer c d l.fields (links d lt).fields l.rule (links d lt).rule _ (subst (λ (y : FullReplica). WritesWell c l.fields l.rule y) same (well.acts acts).writes) own-written in
       false≢true (sym other ∙ (ap (λ (k : ℕ). k == d) one ∙ eqb-itself d)))
 
-  other-fields : (c : ℕ) (lc : c < w.next_conn) → (x : FullMember) → w.lowers c ≡ writes x → x.fields ≡ (links c lc).fields
+  other-fields : (c : ℕ) (lc : InPipeline w c) → (x : FullMember) → w.lowers c ≡ writes x → x.fields ≡ (links c lc).fields
   other-fields c lc x at = (subst (λ (y : Lower). LowerWell w c (links c lc).fields (links c lc).rule y) at (links c lc).lower).fields_are
 
   -- the whole replica at the lower end of another member that acts, by its own fields
-  other-at : (c : ℕ) (lc : c < w.next_conn) → (c == d) ≡ false → (x : FullMember) → w.lowers c ≡ writes x → x.state.responds ≡ true → replica_at v c (block_of x.fields) ≡ replica_at w c (block_of x.fields)
+  other-at : (c : ℕ) (lc : InPipeline w c) → (c == d) ≡ false → (x : FullMember) → w.lowers c ≡ writes x → x.state.responds ≡ true → replica_at v c (block_of x.fields) ≡ replica_at w c (block_of x.fields)
   other-at c lc other x at acts =
-      ap (λ (y : Dialled). v.replicas y.to.node (block_of x.fields)) (t.dialled c lc)
+      ap (λ (y : Dialled). v.replicas y.to.node (block_of x.fields)) (t.dialled c lc.known)
       ∙ subst (λ (f : WriteFields). v.replicas (node_of w c) (block_of f) ≡ w.replicas (node_of w c) (block_of f)) (sym (other-fields c lc x at)) (other-stays c lc other x at acts)
 
   -- WHOEVER AWAITS ANOTHER CONNECTION
@@ -171,7 +173,7 @@ module _ (w v : World) (placed : Placed w) (links : Links w) (d : ℕ) (m : Full
   above-same c off (by_member e) within a =
       let other : (e == d) ≡ false = not-own e c off a in
       let same : v.lowers e ≡ w.lowers e = t.lowers e other in
-      let at : replica_at v e (block_of a.member.fields) ≡ replica_at w e (block_of a.member.fields) = other-at e within other a.member a.is (acting e c a) in (
+      let at : replica_at v e (block_of a.member.fields) ≡ replica_at w e (block_of a.member.fields) = other-at e (writing-in w o e a.member a.is within) other a.member a.is (acting e c a) in (
         ap (pending_below v e) (same ∙ a.is) ∙ (ap (λ (x : FullReplica). if a.member.state.responds then x.known.pending else []) at ∙ sym (ap (pending_below w e) a.is)),
         ap (member_reach v e) (same ∙ a.is) ∙ (ap (λ (x : FullReplica). reach_in x.known) at ∙ sym (ap (member_reach w e) a.is)),
         ap (member_rule v e) (same ∙ a.is) ∙ (ap (λ (x : FullReplica). rule_in x.known) at ∙ sym (ap (member_rule w e) a.is)),
@@ -187,9 +189,9 @@ module _ (w v : World) (placed : Placed w) (links : Links w) (d : ℕ) (m : Full
   ups-same : (c : ℕ) → (c == d) ≡ false → v.ups c ≡ w.ups c
   ups-same c other = t.ups c ∙ (ap (λ (ms : List Message). w.ups c ++ ms) (sent-off (Some d) sent c other) ∙ append-nil (w.ups c))
 
-  same-below : (c : ℕ) (lc : c < w.next_conn) → (c == d) ≡ false → is_conn m.mirror c ≡ false → SameBelow w v c (links c lc).fields
+  same-below : (c : ℕ) (lc : InPipeline w c) → (c == d) ≡ false → is_conn m.mirror c ≡ false → SameBelow w v c (links c lc).fields
   same-below c lc other off = record {
-    dialled = t.dialled c lc;
+    dialled = t.dialled c lc.known;
     downs = downs-same c off;
     ups = ups-same c other;
     down_end = t.down_end c (shut-off shut d m.mirror c other off);
@@ -205,7 +207,7 @@ module _ (w v : World) (placed : Placed w) (links : Links w) (d : ℕ) (m : Full
     replica = λ x at acts. other-stays c lc other x at acts;
   }
 
-  pub pending-same : (c : ℕ) (lc : c < w.next_conn) → (c == d) ≡ false → (l : Lower) → w.lowers c ≡ l → pending_below v c l ≡ pending_below w c l
+  pub pending-same : (c : ℕ) (lc : InPipeline w c) → (c == d) ≡ false → (l : Lower) → w.lowers c ≡ l → pending_below v c l ≡ pending_below w c l
   pending-same c lc other (writes x) at = go x.state.responds refl
     where
       go : (b : Bool) → x.state.responds ≡ b → pending_below v c (writes x) ≡ pending_below w c (writes x)
@@ -216,14 +218,14 @@ module _ (w v : World) (placed : Placed w) (links : Links w) (d : ℕ) (m : Full
   pending-same c lc other recovers at = refl
   pending-same c lc other ended_below at = refl
 
-  pub reach-below-same : (c : ℕ) (lc : c < w.next_conn) → (c == d) ≡ false → (l : Lower) → w.lowers c ≡ l → is_open l ≡ true → reach_below v c (links c lc).fields l ≡ reach_below w c (links c lc).fields l
+  pub reach-below-same : (c : ℕ) (lc : InPipeline w c) → (c == d) ≡ false → (l : Lower) → w.lowers c ≡ l → is_open l ≡ true → reach_below v c (links c lc).fields l ≡ reach_below w c (links c lc).fields l
   reach-below-same c lc other (writes x) at acts = ap (λ (y : FullReplica). reach_in y.known) (other-at c lc other x at (and-right x.state.receives x.state.responds acts))
   reach-below-same c lc other idle at acts = refl
   reach-below-same c lc other (serves b s) at acts = refl
   reach-below-same c lc other recovers at acts = refl
   reach-below-same c lc other ended_below at acts = refl
 
-  pub other-kept : (c : ℕ) (lc : c < w.next_conn) → (c == d) ≡ false → is_conn m.mirror c ≡ false → Link v c
+  pub other-kept : (c : ℕ) (lc : InPipeline w c) → (c == d) ≡ false → is_conn m.mirror c ≡ false → Link v c
   other-kept c lc other off =
       let u : Upper = (w.dialled c).upper in
       link-same w v c (links c lc) (record {
@@ -231,7 +233,7 @@ module _ (w v : World) (placed : Placed w) (links : Links w) (d : ℕ) (m : Full
         onward = awaits-on c off u;
         back = awaits-back c off u;
         carry = λ a.
-            let s = above-same c off u (placed.dialled c lc).upper a in
+            let s = above-same c off u (placed.dialled c lc.known).upper a in
             record {
               waits = s.0;
               acks = ap (λ (n : ℕ). acks_in (drop n (v.ups c))) (t.up_taken c off) ∙ ap (λ (ms : List Message). acks_in (drop (w.up_marks c).taken ms)) (ups-same c other);

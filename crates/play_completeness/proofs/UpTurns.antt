@@ -40,7 +40,7 @@ use Rattle.world_orders.proofs.Frame.{marked}
 use Rattle.play_model.specs.Dues.{is_open}
 use Rattle.play_completeness.specs.Plain.{Peaceful}
 use Rattle.play_completeness.specs.Streams.{acks_in, Flows, reach_in}
-use Rattle.play_completeness.specs.Links.{MemberAwaits, Awaits, pending_below, awaited, packets_left, acks_left, IsGoodAck, ActsWell, MemberWell, LowerWell, Carries, Link, Links}
+use Rattle.play_completeness.specs.Links.{MemberAwaits, Awaits, pending_below, awaited, packets_left, acks_left, IsGoodAck, ActsWell, MemberWell, LowerWell, Carries, Link, InPipeline, Links}
 use Rattle.play_completeness.proofs.Flowing.{Heard, flows-heard}
 use Rattle.play_completeness.proofs.Rows.{IsWritten, ack-taken}
 use Rattle.play_completeness.proofs.PacketTurn.{drop-found}
@@ -52,11 +52,12 @@ use Rattle.play_completeness.proofs.HearTurn.{hear-kept, hear-over, acks-rest}
 use Rattle.play_completeness.proofs.DownTurns.{same-marks, one-taken, is-written, mirror-other, off-own}
 use Rattle.play_completeness.proofs.ReadyTurns.{shuts_at, acked_step, ack-step, goes-on, last-taken}
 use Rattle.play_completeness.proofs.UpSteps.{chain-length, positive, ack-turn, read-so, accept-turn, accepted_step, accept-step}
+use Rattle.play_completeness.proofs.Pipelines.{piped-before}
 
 -- A MEMBER AND ITS MIRROR
 
 module _ (w : World) (o : Ordered w) (takes : TakesInOrder w) (placed : Placed w) (h : Peaceful w) (says : (c : ℕ) → LowerSays w.past c (w.lowers c)) (filled : Filled w) (links : Links w)
-    (d : ℕ) (m : FullMember) (lt : d < w.next_conn) (is : w.lowers d ≡ writes m) (opened : is_open (writes m) ≡ true) (c : ℕ) (lc : c < w.next_conn) (mirrored : m.mirror ≡ Some c) (upper : (w.dialled c).upper ≡ by_member d)
+    (d : ℕ) (m : FullMember) (lt : InPipeline w d) (is : w.lowers d ≡ writes m) (opened : is_open (writes m) ≡ true) (c : ℕ) (lc : InPipeline w c) (mirrored : m.mirror ≡ Some c) (upper : (w.dialled c).upper ≡ by_member d)
     (tells : Mirrors w.past d c) (x : Event) where
   abbrev pub R : FullReplica
   R = w.replicas (node_of w d) (block_of m.fields)
@@ -108,11 +109,14 @@ module _ (w : World) (o : Ordered w) (takes : TakesInOrder w) (placed : Placed w
   all-of : (v : World) (new : MemberState) (r : FullReplica) (sent : List Message) (shut : Shuts) → Turned w v d m new r [] sent shut → Link v d → Link v c → Links v
   all-of v new r sent shut t own hears_of k lk = go (k == d) refl
     where
-      known : k < w.next_conn
-      known = subst (λ (n : ℕ). k < n) t.conns lk
+      before : k < w.next_conn
+      before = subst (λ (n : ℕ). k < n) t.conns lk.known
+
+      known : InPipeline w k
+      known = piped-before w v k before (t.dialled k before) lk
 
       beside : (k == d) ≡ false → (q : Bool) → is_conn m.mirror k ≡ q → Link v k
-      beside apart false away = other-kept w v placed links d m lt is responds new r [] sent shut t k known apart away
+      beside apart false away = other-kept w v o placed links d m lt is responds new r [] sent shut t k known apart away
       beside apart true on = subst (λ (n : ℕ). Link v n) (sym (eqb-true k c (sym (ap (λ (q : Option ℕ). is_conn q k) mirrored) ∙ on))) hears_of
 
       go : (q : Bool) → (k == d) ≡ q → Link v k
@@ -176,10 +180,10 @@ module _ (w : World) (o : Ordered w) (takes : TakesInOrder w) (placed : Placed w
 
     own : (last : Bool) → e.last ≡ last → Link (v last) d
     own false q =
-        on-kept w (v false) placed links d m lt is responds m.state row_now (ack_of e.seqno replies) shuts.Nothing (turned false) off answered (unmoved (ack a) (acked_step m.state R e replies false)) e heard.rest heard.are refl own-good well.receives
+        on-kept w (v false) o placed links d m lt is responds m.state row_now (ack_of e.seqno replies) shuts.Nothing (turned false) off answered (unmoved (ack a) (acked_step m.state R e replies false)) e heard.rest heard.are refl own-good well.receives
         q refl refl (goes q)
     own true q =
-        over-kept w (v true) placed links d m lt is responds (record m.state { responds = false }) row_now (ack_of e.seqno replies) shuts.Both (turned true) off answered (unmoved (ack a) (acked_step m.state R e replies true)) e heard.rest heard.are refl own-good well.receives
+        over-kept w (v true) o placed links d m lt is responds (record m.state { responds = false }) row_now (ack_of e.seqno replies) shuts.Both (turned true) off answered (unmoved (ack a) (acked_step m.state R e replies true)) e heard.rest heard.are refl own-good well.receives
         q refl refl (last-taken R.known written.stream e heard.rest written.written heard.are q (filled.replicas (node_of w d) (block_of m.fields)).full.sound.stream)
 
     hears-on : e.last ≡ false → Link (v false) c
@@ -189,7 +193,7 @@ module _ (w : World) (o : Ordered w) (takes : TakesInOrder w) (placed : Placed w
         let more = more-heard (ack a) (acked_step m.state R e replies false) in
         hear-kept w (v false) o placed links d m lt is responds m.state row_now (ack (ack_of e.seqno replies) ∷ []) shuts.Nothing t c mirrored lc other upper (ack a) found more
         opened refl (reach-on g) (rule-on g) heard.rest
-        (pending-now w (v false) placed links d m lt is responds m.state row_now (ack_of e.seqno replies) shuts.Nothing t off answered (unmoved (ack a) (acked_step m.state R e replies false)) e heard.rest heard.are refl own-good well.receives q refl refl g)
+        (pending-now w (v false) o placed links d m lt is responds m.state row_now (ack_of e.seqno replies) shuts.Nothing t off answered (unmoved (ack a) (acked_step m.state R e replies false)) e heard.rest heard.are refl own-good well.receives q refl refl g)
         (subst (λ (bs : List Ack). Flows heard.rest bs (pending_below w c (w.lowers c)) (packets_left w c) (not (is_open (w.lowers c))))
         (sym (acks-rest w (v false) o placed links d m lt is responds m.state row_now (ack (ack_of e.seqno replies) ∷ []) shuts.Nothing t c mirrored lc other upper (ack a) found more)) (heard.goes q))
       where
@@ -244,7 +248,7 @@ module _ (w : World) (o : Ordered w) (takes : TakesInOrder w) (placed : Placed w
     said-good = refl
 
     own-accepts : Link settled d
-    own-accepts = accept-kept w settled placed links d m lt is responds said accepted off (unmoved (response a) (accepted_step m.state R)) said-good (λ none. none-some c (sym none ∙ mirrored))
+    own-accepts = accept-kept w settled o placed links d m lt is responds said accepted off (unmoved (response a) (accepted_step m.state R)) said-good (λ none. none-some c (sym none ∙ mirrored))
 
     hears-answer : Link settled c
     hears-answer =
@@ -254,7 +258,7 @@ module _ (w : World) (o : Ordered w) (takes : TakesInOrder w) (placed : Placed w
         ∙ sym (acks-rest w settled o placed links d m lt is responds new R (response said ∷ []) shuts.Nothing accepted c mirrored lc other upper (response a) found more) in
         hear-kept w settled o placed links d m lt is responds new R (response said ∷ []) shuts.Nothing accepted c mirrored lc other upper (response a) found more
         opened refl refl refl (pending_below w d (writes m))
-        (pending-same-now w settled placed links d m lt is responds said accepted off (unmoved (response a) (accepted_step m.state R)) said-good (λ none. none-some c (sym none ∙ mirrored)))
+        (pending-same-now w settled o placed links d m lt is responds said accepted off (unmoved (response a) (accepted_step m.state R)) said-good (λ none. none-some c (sym none ∙ mirrored)))
         (subst (λ (bs : List Ack). Flows (pending_below w d (writes m)) bs (pending_below w c (w.lowers c)) (packets_left w c) (not (is_open (w.lowers c)))) same
         (subst (λ (ps : List PendingPacket). Flows ps (acks_left w c) (pending_below w c (w.lowers c)) (packets_left w c) (not (is_open (w.lowers c)))) (ap (pending_below w d) is) old.flows))
 

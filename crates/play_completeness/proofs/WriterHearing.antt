@@ -1,5 +1,5 @@
 -- What writers hear keeps all connections.
-use Rattle.std.proofs.Common.{◌≡◌, ℕ, suc, ◌<◌, Bool, true, false, List, [], ◌∷◌, length, map, slice_get, Option, Some, None, IfSome, refl, sym, ◌∙◌, ap, subst, ◌⊎◌, eqb-true}
+use Rattle.std.proofs.Common.{◌≡◌, ℕ, suc, Bool, true, false, List, [], ◌∷◌, length, map, slice_get, Option, Some, None, IfSome, refl, sym, ◌∙◌, ap, subst, ◌⊎◌, eqb-true}
 use Rattle.std.specs.Prelude.{◌&&◌, not, is_none, nat_lt, if◌then◌else◌}
 use Rattle.std.proofs.lemmas.Bool.{false≢true}
 use Rattle.std.proofs.lemmas.List.{length-map}
@@ -40,7 +40,7 @@ use Rattle.play_model.specs.Laws.{IsQuiet}
 use Rattle.play_scripts.proofs.PlayLaws.Early.{nothing-early}
 use Rattle.play_scripts.proofs.PlayLaws.Resting.{all-rest}
 use Rattle.play_completeness.specs.Streams.{acks_in, HasLast}
-use Rattle.play_completeness.specs.Links.{Awaits, acks_left, Carries, Links}
+use Rattle.play_completeness.specs.Links.{Awaits, acks_left, Carries, InPipeline, Links}
 use Rattle.play_completeness.specs.Writers.{WellIn, Writers}
 use Rattle.play_completeness.specs.Hearing.{WritersHear}
 use Rattle.play_completeness.proofs.Hearing.{less}
@@ -48,9 +48,10 @@ use Rattle.play_completeness.proofs.TurnWorld.{named}
 use Rattle.play_completeness.proofs.DownTurns.{no-end, after-links}
 use Rattle.play_completeness.proofs.UpSteps.{ack-only, response-only, end-last, same-fields}
 use Rattle.play_completeness.proofs.WriterUps.{is_acked_in, acks-links, answer-links}
+use Rattle.play_completeness.proofs.Pipelines.{dialled-in}
 
 module _ (nodes : ℕ) (events : List Event) (quiet : IsQuiet (run (start nodes) events)) (links : Links (run (start nodes) events)) (well : Writers (run (start nodes) events)) (b c : ℕ) (x : Event)
-    (lc : c < (run (start nodes) events).next_conn) (upper : ((run (start nodes) events).dialled c).upper ≡ by_writer b) (conn : ((run (start nodes) events).writers b).conn ≡ Some c) where
+    (lc : InPipeline (run (start nodes) events) c) (upper : ((run (start nodes) events).dialled c).upper ≡ by_writer b) (conn : ((run (start nodes) events).writers b).conn ≡ Some c) where
   abbrev w : World
   w = run (start nodes) events
 
@@ -133,7 +134,7 @@ pub conn-is : (o : Option ℕ) (c : ℕ) → is_conn o c ≡ true → o ≡ Some
 conn-is None c e = absurd (false≢true e)
 conn-is (Some n) c e = ap (λ (k : ℕ). Some k) (sym (eqb-true c n e))
 
-writer-next : (nodes : ℕ) (events : List Event) → IsQuiet (run (start nodes) events) → Links (run (start nodes) events) → Writers (run (start nodes) events) → (b c : ℕ) (x : Event) → c < (run (start nodes) events).next_conn → ((run (start nodes) events).dialled c).upper ≡ by_writer b
+writer-next : (nodes : ℕ) (events : List Event) → IsQuiet (run (start nodes) events) → Links (run (start nodes) events) → Writers (run (start nodes) events) → (b c : ℕ) (x : Event) → InPipeline (run (start nodes) events) c → ((run (start nodes) events).dialled c).upper ≡ by_writer b
     → (o : Option Next) → next_up (run (start nodes) events) c ≡ o → IfSome (up_as (run (start nodes) events) c false o) (λ v. Links (named x v))
 unfolding up_taken
 writer-next nodes events quiet links well b c x lc upper None next = tt
@@ -152,4 +153,4 @@ unfolding happens outcome
 writers-hear nodes events c b plain quiet links well upper =
     let w : World = run (start nodes) events in
     after-links w (event.Up c) (up_event w c.0 false) links
-    (when-each (λ (v : World). Links (named (event.Up c) v)) (nat_lt c.0 w.next_conn) _ (λ k. writer-next nodes events quiet links well b c.0 (event.Up c) (less c.0 w k) upper (next_up w c.0) refl))
+    (when-each (λ (v : World). Links (named (event.Up c) v)) (nat_lt c.0 w.next_conn) _ (λ k. writer-next nodes events quiet links well b c.0 (event.Up c) (dialled-in w c.0 (by_writer b) upper refl (less c.0 w k)) upper (next_up w c.0) refl))

@@ -11,7 +11,7 @@ use Rattle.world_laws.specs.Placing.{Placed}
 use Rattle.world_orders.specs.Orders.{is_empty, IsMember, IsBelow, Ordered}
 use Rattle.play_model.specs.Dues.{is_open}
 use Rattle.play_completeness.specs.Streams.{acks_in, packets_in, as_pending, Flows, reach_of}
-use Rattle.play_completeness.specs.Links.{Awaits, pending_below, awaited, packets_left, acks_left, reach_below, reach_above, WritesWell, ActsWell, LowerWell, Carries, Link, Links}
+use Rattle.play_completeness.specs.Links.{Awaits, pending_below, awaited, packets_left, acks_left, reach_below, reach_above, WritesWell, ActsWell, LowerWell, Carries, Link, InPipeline, Links}
 use Rattle.play_completeness.proofs.Flowing.{get-within}
 use Rattle.play_completeness.proofs.LinkFrame.{BelowWell, below-of, flows-same, reach-same, link-of}
 use Rattle.play_completeness.proofs.HearTurn.{not-empty}
@@ -26,7 +26,7 @@ pub record Hears (w v : World) (c : ℕ) : Type 0 where
   pub up_stays : (n : ℕ) → (w.up_marks c).end ≡ Some n → (v.up_marks c).end ≡ Some n
 
 module _ (w v : World) (o : Ordered w) (placed : Placed w) (links : Links w) (b c : ℕ) (new : Writing) (t : WriterTurned w v b c new) (conn : (w.writers b).conn ≡ Some c) (kept : (k : ℕ) → new.conn ≡ Some k → k ≡ c)
-    (lc : c < w.next_conn) (upper : (w.dialled c).upper ≡ by_writer b) (y : Message) (found : slice_get (w.ups c) (w.up_marks c).taken ≡ Some y) (h : Hears w v c) where
+    (lc : InPipeline w c) (upper : (w.dialled c).upper ≡ by_writer b) (y : Message) (found : slice_get (w.ups c) (w.up_marks c).taken ≡ Some y) (h : Hears w v c) where
   abbrev fc : WriteFields
   fc = (links c lc).fields
 
@@ -57,7 +57,7 @@ module _ (w v : World) (o : Ordered w) (placed : Placed w) (links : Links w) (b 
           below = k.below;
           stays = k.stays;
           mirror = k.mirror;
-          writes = subst (WritesWell c fc rulec) (sym (replica-same w v placed links b c new t conn kept c lc fc)) k.writes;
+          writes = subst (WritesWell c fc rulec) (sym (replica-same w v placed links b c new t conn kept c lc.known fc)) k.writes;
           waits = λ e. absurd (false≢true (sym sent-some ∙ (member.answered ∙ e)));
         };
   }
@@ -97,17 +97,17 @@ module _ (w v : World) (o : Ordered w) (placed : Placed w) (links : Links w) (b 
     hear-carries : Carries v c fc rulec (by_writer b) (w.lowers c)
     hear-carries = record {
       flows = flows-same (map as_pending new.known.stream.unacked) (awaited v (by_writer b)) (acks_left v c) (acks_left v c) (pending_below w c (w.lowers c)) (pending_below v c (w.lowers c)) (packets_left w c) (packets_left v c) (not (is_open (w.lowers c)))
-          (ap (λ (x : Writing). map as_pending x.known.stream.unacked) t.writer) refl (pending-same w v placed links b c new t conn kept c lc (w.lowers c)) packets-same flows;
+          (ap (λ (x : Writing). map as_pending x.known.stream.unacked) t.writer) refl (pending-same w v placed links b c new t conn kept c lc.known (w.lowers c)) packets-same flows;
       reaches = reach-same rulec (reach_below w c fc (w.lowers c)) (reach_below v c fc (w.lowers c)) (packets_left w c) (packets_left v c) (reach_above w (by_writer b)) (reach_above v (by_writer b)) (not (is_open (w.lowers c)))
-          (λ _. reach-below-same w v placed links b c new t conn kept c lc fc (w.lowers c)) packets-same (ap (λ (x : Writing). reach_of x.known) t.writer ∙ reach) hear-old.reaches;
+          (λ _. reach-below-same w v placed links b c new t conn kept c lc.known fc (w.lowers c)) packets-same (ap (λ (x : Writing). reach_of x.known) t.writer ∙ reach) hear-old.reaches;
       ruled = ap (λ (x : Writing). Some x.known.stream.rule) t.writer ∙ (ap (λ (z : Rule). Some z) rules ∙ hear-old.ruled);
     }
 
     pub hear-kept : Link v c
-    hear-kept = link-of v c fc rulec (by_writer b) (w.lowers c) (ap (λ (z : Dialled). z.upper) (t.dialled c lc) ∙ upper) (t.lowers c) hear-below (links c lc).request_is (λ _. awaits-now) (λ _. hear-carries)
+    hear-kept = link-of v c fc rulec (by_writer b) (w.lowers c) (ap (λ (z : Dialled). z.upper) (t.dialled c lc.known) ∙ upper) (t.lowers c) hear-below (links c lc).request_is (λ _. awaits-now) (λ _. hear-carries)
 
   -- the writer has given its connection up, whose lower end is over
   pub hear-over : new.conn ≡ None → is_open (w.lowers c) ≡ false → Link v c
   hear-over gone closed =
-      link-of v c fc rulec (by_writer b) (w.lowers c) (ap (λ (z : Dialled). z.upper) (t.dialled c lc) ∙ upper) (t.lowers c) hear-below (links c lc).request_is
+      link-of v c fc rulec (by_writer b) (w.lowers c) (ap (λ (z : Dialled). z.upper) (t.dialled c lc.known) ∙ upper) (t.lowers c) hear-below (links c lc).request_is
       (λ q. absurd (false≢true (sym closed ∙ q))) (λ a. absurd (none-some c (sym (ap (λ (x : Writing). x.conn) t.writer ∙ gone) ∙ a)))

@@ -1,5 +1,5 @@
 -- A writer takes what stands next on its connection, and is as it should be then.
-use Rattle.std.proofs.Common.{◌≡◌, ℕ, ◌<◌, ◌≤◌, true, false, List, [], ◌∷◌, ◌++◌, slice_get, Option, Some, refl, sym, ◌∙◌, ap, subst}
+use Rattle.std.proofs.Common.{◌≡◌, ℕ, ◌≤◌, true, false, List, [], ◌∷◌, ◌++◌, slice_get, Option, Some, refl, sym, ◌∙◌, ap, subst}
 use Rattle.std.proofs.lemmas.Option.{none-some}
 use Rattle.hd_base.specs.SumRules.{Rule}
 use Rattle.hd_base.specs.declared.numbers.ConnId.{ConnId}
@@ -39,7 +39,7 @@ use Rattle.play_scripts.proofs.PlayLaws.Early.{nothing-early}
 use Rattle.play_scripts.proofs.PlayLaws.Resting.{all-rest}
 use Rattle.play_scripts.proofs.PlayLaws.Untold.{stays-quiet}
 use Rattle.play_completeness.specs.Formed.{Formed, HasRule, AllHave, Ruled}
-use Rattle.play_completeness.specs.Links.{IsFinalWith, Links}
+use Rattle.play_completeness.specs.Links.{IsFinalWith, InPipeline, Links}
 use Rattle.play_completeness.specs.Plain.{is_plain, ArePlain}
 use Rattle.play_completeness.specs.Writers.{IsOpened, AreWhole, OpensWell, StreamsWell, WellIn, Writers}
 use Rattle.play_completeness.proofs.AckKeeps.{HeardWell, answer-heard, ack-heard}
@@ -60,7 +60,7 @@ names-more Of [] e h k = (k, tt)
 names-more Of (x ∷ events) e h k = (h.0, names-more Of events e h.1 k)
 
 module _ (nodes : ℕ) (events : List Event) (few : nodes ≤ MAX_NODES) (plain : ArePlain events) (names : AllName (IsNode nodes) events) (quiet : IsQuiet (run (start nodes) events)) (links : Links (run (start nodes) events)) (well : Writers (run (start nodes) events))
-    (formed : Formed (run (start nodes) events)) (ruled : Ruled (run (start nodes) events)) (b : ℕ) (c : ConnId) (lc : c.0 < (run (start nodes) events).next_conn) (upper : ((run (start nodes) events).dialled c.0).upper ≡ by_writer b) (conn : ((run (start nodes) events).writers b).conn ≡ Some c.0) where
+    (formed : Formed (run (start nodes) events)) (ruled : Ruled (run (start nodes) events)) (b : ℕ) (c : ConnId) (lc : InPipeline (run (start nodes) events) c.0) (upper : ((run (start nodes) events).dialled c.0).upper ≡ by_writer b) (conn : ((run (start nodes) events).writers b).conn ≡ Some c.0) where
   abbrev w : World
   w = run (start nodes) events
 

@@ -13,7 +13,7 @@ use Rattle.world_laws.specs.Placing.{Placed, IsUpper}
 use Rattle.world_orders.proofs.Kept.{eqb-itself}
 use Rattle.play_model.specs.Dues.{is_open}
 use Rattle.play_completeness.specs.Streams.{packets_in, acks_in, as_pending, reach_in, reach_of}
-use Rattle.play_completeness.specs.Links.{Awaits, pending_below, awaited, member_reach, member_rule, reach_below, reach_above, rule_above, Link, Links}
+use Rattle.play_completeness.specs.Links.{Awaits, pending_below, awaited, member_reach, member_rule, reach_below, reach_above, rule_above, Link, InPipeline, Links}
 use Rattle.play_completeness.proofs.LinkFrame.{link-same}
 
 -- What a turn of the writer of a block, which has a connection, makes of the world: the writer, and whether the
@@ -98,12 +98,12 @@ module _ (w v : World) (placed : Placed w) (links : Links w) (b c : ℕ) (new : 
   reach-below-same k lk f recovers = refl
   reach-below-same k lk f ended_below = refl
 
-  pub other-kept : (k : ℕ) (lk : k < w.next_conn) → (k == c) ≡ false → Link v k
+  pub other-kept : (k : ℕ) (lk : InPipeline w k) → (k == c) ≡ false → Link v k
   other-kept k lk other =
       let u : Upper = (w.dialled k).upper in
       link-same w v k (links k lk) (record {
         below = record {
-          dialled = t.dialled k lk;
+          dialled = t.dialled k lk.known;
           downs = t.downs k other;
           ups = t.ups k;
           down_end = t.down_end k other;
@@ -117,13 +117,13 @@ module _ (w v : World) (placed : Placed w) (links : Links w) (b c : ℕ) (new : 
         onward = awaits-on k other u;
         back = awaits-back k other u;
         carry = λ a.
-            let s = above-same k other u (placed.dialled k lk).upper a in
+            let s = above-same k other u (placed.dialled k lk.known).upper a in
             record {
               waits = s.0;
               acks = ap (λ (n : ℕ). acks_in (drop n (v.ups k))) (t.up_taken k other) ∙ ap (λ (ms : List Message). acks_in (drop (w.up_marks k).taken ms)) (t.ups k);
-              pending = pending-same k lk (w.lowers k);
+              pending = pending-same k lk.known (w.lowers k);
               packets = ap (λ (n : ℕ). packets_in (drop n (v.downs k))) (t.down_taken k) ∙ ap (λ (ms : List Message). packets_in (drop (w.down_marks k).taken ms)) (t.downs k other);
-              below = λ _. reach-below-same k lk (links k lk).fields (w.lowers k);
+              below = λ _. reach-below-same k lk.known (links k lk).fields (w.lowers k);
               above = s.1;
               rule = s.2;
             };

@@ -30,12 +30,13 @@ use Rattle.world_laws.specs.Placing.{Placed}
 use Rattle.world_orders.specs.Orders.{Ordered}
 use Rattle.play_model.specs.Dues.{is_open}
 use Rattle.play_completeness.specs.Streams.{as_pending, acks_in, Flows, reach_of}
-use Rattle.play_completeness.specs.Links.{Awaits, pending_below, packets_left, acks_left, IsGoodAck, Carries, Link, Links}
+use Rattle.play_completeness.specs.Links.{Awaits, pending_below, packets_left, acks_left, IsGoodAck, Carries, Link, InPipeline, Links}
 use Rattle.play_completeness.proofs.Flowing.{Heard, flows-heard}
 use Rattle.play_completeness.proofs.PacketTurn.{drop-found}
 use Rattle.play_completeness.proofs.WriterHears.{acks-rest, hear-kept, hear-over}
-use Rattle.play_completeness.proofs.WriterTurned.{other-kept}
+use Rattle.play_completeness.proofs.WriterTurned.{WriterTurned, other-kept}
 use Rattle.play_completeness.proofs.WriterWorld.{new, after, writer-turned, hears-by, good-verdict, oldest-gone, oldest-last}
+use Rattle.play_completeness.proofs.Pipelines.{piped-before}
 
 -- PHASES
 
@@ -110,7 +111,7 @@ first-of : (xs : List Packet) (e : PendingPacket) (rest : List PendingPacket) �
 first-of [] e rest q = absurd (cc)
 first-of (p ∷ ps) e rest q = (p, ps, refl, cc, cc)
 
-module _ (w : World) (o : Ordered w) (placed : Placed w) (links : Links w) (b c : ℕ) (x : Event) (conn : (w.writers b).conn ≡ Some c) (lc : c < w.next_conn) (upper : (w.dialled c).upper ≡ by_writer b) where
+module _ (w : World) (o : Ordered w) (placed : Placed w) (links : Links w) (b c : ℕ) (x : Event) (conn : (w.writers b).conn ≡ Some c) (lc : InPipeline w c) (upper : (w.dialled c).upper ≡ by_writer b) where
   abbrev pub X : WriterRecord
   X = (w.writers b).known
 
@@ -126,8 +127,14 @@ module _ (w : World) (o : Ordered w) (placed : Placed w) (links : Links w) (b c 
   all-of : (y : Message) (n : WriterRecord) → Link (after w b c n y x conn) c → Links (after w b c n y x conn)
   all-of y n own k lk = go (k == c) refl
     where
-      known : k < w.next_conn
-      known = subst (λ (i : ℕ). k < i) (writer-turned w b c n y x conn).conns lk
+      t : WriterTurned w (after w b c n y x conn) b c (new w b c n y x conn)
+      t = writer-turned w b c n y x conn
+
+      before : k < w.next_conn
+      before = subst (λ (i : ℕ). k < i) t.conns lk.known
+
+      known : InPipeline w k
+      known = piped-before w (after w b c n y x conn) k before (t.dialled k before) lk
 
       go : (q : Bool) → (k == c) ≡ q → Link (after w b c n y x conn) k
       go true e = subst (λ (i : ℕ). Link (after w b c n y x conn) i) (sym (eqb-true k c e)) own

@@ -19,7 +19,6 @@ use Rattle.play_model.specs.States.{PlayState, world_of}
 use Rattle.play_model.specs.Lines.{Plays}
 use Rattle.play_scripts.specs.Fitting.{ScriptFits}
 use Rattle.play_scripts.specs.Failures.{HaveNoFailures}
-use Rattle.play_scripts.specs.Reads.{HaveNoReads}
 
 -- THE COMMANDS OF A BLOCK
 
@@ -130,9 +129,9 @@ pub record IsComplete (script : List ScriptLine) (w : World) : Type 0 where
   pub answers : (b : ℕ) → AllDone (commands_of b script) (w.said b)
   pub whole : (b : BlockId) → ClosesWhole w b (commands_of b.0 script)
 
--- A play without failures and reads completes: its script fits, has no cut, fault, stop, start, recovery or read, and
--- each append names the members of its block's create in the same order.
+-- A play without failures completes: its script fits, has no cut, fault, stop, start or recovery, and each append names
+-- the members of its block's create in the same order.
 abbrev pub PlaysComplete : Type 0
 PlaysComplete = (shelves : ℕ) (script : List ScriptLine) (end : PlayState) → ScriptFits shelves script →
-    HaveNoFailures script → HaveNoReads script → ((b : ℕ) → KeepsMembers (commands_of b script)) → Plays script end
+    HaveNoFailures script → ((b : ℕ) → KeepsMembers (commands_of b script)) → Plays script end
     → IsComplete script (world_of end)

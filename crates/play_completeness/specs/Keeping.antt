@@ -1,8 +1,9 @@
--- What is due of connections keeps a play without failures as it should be.
+-- What is due of connections and of readers keeps a play without failures as it should be.
 use Rattle.std.specs.Prelude.{ℕ, ◌≡◌, ◌≤◌, true, List, [], ◌∷◌}
 use Rattle.hd_base.specs.declared.numbers.BlockId.{BlockId}
 use Rattle.hd_base.specs.declared.roads.TheConstants.{MAX_NODES}
 use Rattle.writer_core.specs.declared.commands.Command.{Command}
+use Rattle.play_model.specs.declared.asks.ReadAsk.{ReadAsk}
 use Rattle.play_model.specs.declared.dues.Due.{Due}
 use Rattle.play_model.specs.declared.dues.Due.TheVariants as due
 use Rattle.world.specs.Worlds.{add}
@@ -36,6 +37,11 @@ abbrev pub ConnsKeepPlays : Type 0
 ConnsKeepPlays = (p : PlayState) (commands : ℕ → List Command) (d : Due) → PlayedOn p commands →
     is_due (world_of p) p.queues d ≡ true → IsOfConn d
     → PlayedOn (after_due p d) commands
+
+-- So it does where a reader asks its node.
+abbrev pub ReadersKeepPlays : Type 0
+ReadersKeepPlays = (p : PlayState) (commands : ℕ → List Command) (ask : ReadAsk) → PlayedOn p commands
+    → PlayedOn (after_due p (due.Reader ask)) commands
 
 -- What a writer does keeps names and rules.
 abbrev pub OwnKeepsNames : Type 0

@@ -1,5 +1,5 @@
--- Each connection of a play without failures. One that is live, whose lower end has its request to take, or is a member
--- that still acts, is awaited by whoever dialled it. What it carries is taken at both ends.
+-- Each connection of a pipeline in a play without failures. One that is live, whose lower end has its request to take,
+-- or is a member that still acts, is awaited by whoever dialled it. What it carries is taken at both ends.
 --
 -- What keeps it, by what happens:
 -- * A request is taken at an idle end: its replica may take it, so the end is a member, and its mirror's connection is
@@ -45,6 +45,7 @@ use Rattle.world_laws.specs.Carrying.{new_stamp}
 use Rattle.play_scripts.specs.WorldAcks.Acking.{Asked, promised}
 use Rattle.world_closings.specs.WorldWriters.Taking.{chain}
 use Rattle.play_model.specs.Dues.{is_open}
+use Rattle.play_completeness.specs.Plain.{is_of_pipeline}
 use Rattle.play_completeness.specs.Streams.{packets_in, acks_in, as_pending, Flows, Reach, first_reach, reach_in, reach_of, Leads}
 
 -- WHO AWAITS A CONNECTION
@@ -229,6 +230,11 @@ pub record Link (w : World) (c : ℕ) : Type 0 where
   pub live : is_open (w.lowers c) ≡ true → Awaits w c (w.dialled c).upper
   pub carries : Awaits w c (w.dialled c).upper → Carries w c fields rule (w.dialled c).upper (w.lowers c)
 
--- each connection that was dialled
+-- a connection that was dialled, by a writer or a member
+pub record InPipeline (w : World) (c : ℕ) : Type 0 where
+  pub known : c < w.next_conn
+  pub of : is_of_pipeline (w.dialled c).upper ≡ true
+
+-- each of these; readers' connections are beside them
 abbrev pub Links : World → Type 0
-Links w = (c : ℕ) → c < w.next_conn → Link w c
+Links w = (c : ℕ) → InPipeline w c → Link w c

@@ -12,26 +12,26 @@ use Rattle.world.specs.declared.events.Event.TheVariants as event
 use Rattle.world.specs.declared.events.OwnStep.{OwnStep}
 use Rattle.world.specs.declared.events.OwnStep.TheVariants as own
 use Rattle.op_headers.specs.declared.ops.Op.TheVariants as op
-use Rattle.world.specs.Parts.{Message, request, Upper, by_writer, by_member, Lower, serves, recovers, no_reader, no_primary}
+use Rattle.world.specs.Parts.{Message, request, Upper, by_writer, by_member, by_primary, Lower, recovers, no_primary}
 use Rattle.world.specs.Worlds.{World, start}
 use Rattle.world.specs.Events.{run}
 use Rattle.play_model.specs.States.{PlayState}
 use Rattle.play_scripts.specs.Failures.{HaveNoFailures}
-use Rattle.play_scripts.specs.Reads.{HaveNoReads}
 use Rattle.play_model.specs.Lines.{Plays}
 
 -- EVENTS
 
 abbrev pub is_plain_step : OwnStep → Bool
 is_plain_step (own.Writer b takes answered) = answered
+is_plain_step (own.Reader i node r answered) = answered
 is_plain_step other = false
 
 abbrev pub is_plain_call : Caller → Bool
 is_plain_call (caller.Writer b) = true
 is_plain_call other = false
 
--- An own step of a writer or what the office answers one, or what an end of a connection does; each dial is answered,
--- and no call on files fails.
+-- An own step of a writer or a reader, what the office answers a writer, or what an end of a connection does; each dial
+-- is answered, and no call on files fails.
 abbrev pub is_plain : Event → Bool
 is_plain (event.Own s) = is_plain_step s
 is_plain (event.Office c) = is_plain_call c
@@ -44,10 +44,9 @@ abbrev pub ArePlain : List Event → Type 0
 ArePlain [] = Unit {0}
 ArePlain (e ∷ events) = (is_plain e ≡ true) × ArePlain events
 
--- So are the events of each play without failures and reads.
+-- So are the events of each play without failures.
 abbrev pub PlaysArePlain : Type 0
-PlaysArePlain = (script : List ScriptLine) (end : PlayState) → HaveNoFailures script → HaveNoReads script →
-    Plays script end
+PlaysArePlain = (script : List ScriptLine) (end : PlayState) → HaveNoFailures script → Plays script end
     → ArePlain end.events
 
 -- WHAT NEVER HAPPENS
@@ -58,17 +57,20 @@ is_of_pipeline (by_writer b) = true
 is_of_pipeline (by_member d) = true
 is_of_pipeline other = false
 
--- a lower end that serves no read and no recovery
-abbrev pub is_of_write : Lower → Bool
-is_of_write (serves b s) = false
-is_of_write recovers = false
-is_of_write other = true
+-- a primary dialled
+abbrev pub is_of_primary : Upper → Bool
+is_of_primary (by_primary i place) = true
+is_of_primary other = false
 
--- a message that asks for a read or a recovery
-abbrev pub asks_other : Message → Bool
-asks_other (request (op.Read r)) = true
-asks_other (request (op.Recovery r)) = true
-asks_other other = false
+-- a lower end that answers a primary
+abbrev pub is_of_recovery : Lower → Bool
+is_of_recovery recovers = true
+is_of_recovery other = false
+
+-- a message that asks for a part of a recovery
+abbrev pub asks_recovery : Message → Bool
+asks_recovery (request (op.Recovery r)) = true
+asks_recovery other = false
 
 -- a replica is FINALIZED or RBW, and no recovery holds it
 pub record IsOwn (i : ReplicaInfo) : Type 0 where
@@ -79,17 +81,16 @@ pub record IsOwn (i : ReplicaInfo) : Type 0 where
 pub record IsLeased (r : BlockRecord) : Type 0 where
   pub free : r.recovery ≡ None
 
--- All nodes are in their first life. No reader and no primary began, each connection is one of a pipeline and carries
--- no request but one to write, no replica is broken or held by a recovery, and the office knows of no recovery.
+-- All nodes are in their first life. No primary began, none dialled, and no connection carries a request of a recovery;
+-- no replica is broken or held by a recovery, and the office knows of no recovery.
 pub record Peaceful (w : World) : Type 0 where
   pub lives : (n : ℕ) → w.lives n ≡ 0
   pub born : (c : ℕ) → (w.dialled c).to.life ≡ 0
-  pub readers : (i : ℕ) → w.readers i ≡ no_reader
   pub primaries : (i : ℕ) → w.primaries i ≡ no_primary
-  pub uppers : (c : ℕ) → is_of_pipeline (w.dialled c).upper ≡ true
-  pub lowers : (c : ℕ) → is_of_write (w.lowers c) ≡ true
-  pub downs : (c i : ℕ) (m : Message) → slice_get (w.downs c) i ≡ Some m → asks_other m ≡ false
-  pub ups : (c i : ℕ) (m : Message) → slice_get (w.ups c) i ≡ Some m → asks_other m ≡ false
+  pub uppers : (c : ℕ) → is_of_primary (w.dialled c).upper ≡ false
+  pub lowers : (c : ℕ) → is_of_recovery (w.lowers c) ≡ false
+  pub downs : (c i : ℕ) (m : Message) → slice_get (w.downs c) i ≡ Some m → asks_recovery m ≡ false
+  pub ups : (c i : ℕ) (m : Message) → slice_get (w.ups c) i ≡ Some m → asks_recovery m ≡ false
   pub sound : (n b : ℕ) → (w.replicas n b).known.is_broken ≡ false
   pub whole : (n b : ℕ) → w.breaks n b ≡ None
   pub own : (n b : ℕ) → IfSome (w.replicas n b).known.info IsOwn

@@ -2,11 +2,12 @@
 --
 -- From here to the promise (`PlaysComplete`):
 -- 1. `Played` holds of an opened play, and each line, each draw and each step keeps it. A command that joins a queue
---    fits those before it, as the script's lines do. What is due of connections keeps it (specs/Keeping), as long as
---    commands name nodes of the world, and replicas have their writers' rules, which both stay so. What a writer does
---    is to keep `Links` and `Writers` by the cases that stand there. For a packet that a writer sends: it is the next
---    one, since its sums are those that its bytes have, as long as these are below 256. From what writers do, and from
---    what lines keep, the promise follows.
+--    fits those before it, as the script's lines do. What is due of connections and of readers keeps it
+--    (specs/Keeping), as long as commands name nodes of the world, and replicas have their writers' rules, which both
+--    stay so. A reader's connection is beside those of pipelines, and what happens on it leaves them, the replicas and
+--    the office alone. What a writer does is to keep `Links` and `Writers` by the cases that stand there. For a packet
+--    that a writer sends: it is the next one, since its sums are those that its bytes have, as long as these are below
+--    256. From what writers do, and from what lines keep, the promise follows.
 -- 2. Where something is awaited on a connection, something is due. By induction from the last connection up: an idle
 --    end that awaits to be asked takes its request; a member whose mirror hasn't answered leads on to the mirror's
 --    connection; where the answer, or an ack, is on its way, it is taken; where a packet is pending at a member without
@@ -96,10 +97,9 @@ pub record BlockPlayed (w : World) (b : ℕ) (queue : List TakenCommand) (comman
 
 -- PLAYS
 
--- A play in which these commands were given to the writers of blocks, no line has asked to read or to recover, and no
--- write is to fail.
+-- A play in which these commands were given to the writers of blocks, no line has asked to recover, and no write is to
+-- fail.
 pub record Played (p : PlayState) (commands : ℕ → List Command) : Type 0 where
-  pub asks : p.asks ≡ []
   pub recoveries : p.recoveries ≡ []
   pub unarmed : (n : ℕ) → p.faults n ≡ 0
   pub plain : ArePlain p.events

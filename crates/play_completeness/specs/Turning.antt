@@ -10,14 +10,15 @@ use Rattle.world.specs.Events.{run, happens}
 use Rattle.play_model.specs.Dues.{is_open}
 use Rattle.play_model.specs.Laws.{IsQuiet}
 use Rattle.play_scripts.specs.PlayLaws.Members.{IsNode, AllName}
-use Rattle.play_completeness.specs.Plain.{ArePlain}
+use Rattle.play_completeness.specs.Plain.{is_of_pipeline, ArePlain}
 use Rattle.play_completeness.specs.Links.{Links}
 
--- An end that has taken nothing takes its request, in a world of few nodes, where each command that a writer took names
--- nodes of the world.
+-- An end of a pipeline's connection that has taken nothing takes its request, in a world of few nodes, where each
+-- command that a writer took names nodes of the world.
 abbrev pub RequestsKeepLinks : Type 0
 RequestsKeepLinks = (nodes : ℕ) (events : List Event) (c : ConnId) → nodes ≤ MAX_NODES → ArePlain events →
     AllName (IsNode nodes) events → IsQuiet (run (start nodes) events) → Links (run (start nodes) events) →
+    is_of_pipeline ((run (start nodes) events).dialled c.0).upper ≡ true →
     (run (start nodes) events).lowers c.0 ≡ idle
     → Links (happens (run (start nodes) events) (event.Down c true))
 

@@ -8,14 +8,14 @@ ghost use Rattle.play_completeness.specs.Played.{CommandsJoin, OpenedArePlayed, 
 ghost use Rattle.play_completeness.specs.Blocks.{CommandsAreOfBlocks};
 ghost use Rattle.play_completeness.specs.Formed.{AllFormed};
 ghost use Rattle.play_completeness.specs.Hearing.{WritersHear};
-ghost use Rattle.play_completeness.specs.Keeping.{CommandsJoinOn, ConnsKeepPlays, OpenedPlayOn, OwnKeepsNames};
+ghost use Rattle.play_completeness.specs.Keeping.{CommandsJoinOn, ConnsKeepPlays, OpenedPlayOn, OwnKeepsNames, ReadersKeepPlays};
 ghost use Rattle.play_completeness.specs.Turning.{HearingKeepsLinks, PacketsKeepLinks, ReadyKeepsLinks, RequestsKeepLinks};
 ghost use Rattle.play_completeness.specs.Waiting.{AwaitedIsDue};
 
 use world_closings::worlds_are_safe;
 
-/// All that happens in a play is a writer's step or the office's answer to it, each dial answered, or what an end of a
-/// connection does, and no call on files fails.
+/// All that happens in a play is a writer's or a reader's step, each dial answered, the office's answer to a writer, or
+/// what an end of a connection does, and no call on files fails.
 pub fn plays_are_plain()
     ensures { PlaysArePlain }
 {}
@@ -28,8 +28,8 @@ pub fn plays_are_safe()
     worlds_are_safe();
 }
 
-/// Where only such things happen, no reader and no primary begins, each connection is one of a pipeline, and no replica
-/// breaks or comes into a recovery; nor does the office know of one.
+/// Where only such things happen, no primary begins or dials, and no replica breaks or comes into a recovery; nor does
+/// the office know of one.
 pub fn plain_events_keep_peace()
     ensures { AllPeaceful }
 {}
@@ -46,8 +46,8 @@ pub fn settled_plays_are_complete()
     ensures { SettledIsComplete }
 {}
 
-/// Where an end that has taken nothing takes its request, its replica takes it too, so it is a member; its mirror is
-/// asked, if it has one; and all connections fit their ends as before.
+/// Where an end of a pipeline that has taken nothing takes its request, its replica takes it too, so it is a member; its
+/// mirror is asked, if it has one; and all connections of pipelines fit their ends as before.
 pub fn requests_keep_links()
     ensures { RequestsKeepLinks }
 {}
@@ -93,9 +93,14 @@ pub fn writers_have_formed_their_packets()
 {}
 
 /// A play of few nodes stays as it should be where what is due of a connection happens: a lower end takes something or
-/// acts, or a member or a writer hears something.
+/// acts, or a member, a writer or a reader hears something.
 pub fn connections_keep_plays()
     ensures { ConnsKeepPlays }
+{}
+
+/// So it does where a reader asks its node.
+pub fn readers_keep_plays()
+    ensures { ReadersKeepPlays }
 {}
 
 /// What a writer does keeps that the commands taken name nodes of the world, and that replicas have their writers'

@@ -12,11 +12,6 @@ abbrev pub is_read : Instruction → Bool
 is_read (says.Read block node offset count) = true
 is_read other = false
 
--- None of these lines reads.
-abbrev pub HaveNoReads : List ScriptLine → Type 0
-HaveNoReads [] = Unit {0}
-HaveNoReads (l ∷ lines) = (is_read l.instruction ≡ false) × HaveNoReads lines
-
 -- the numbers of the lines that read, in their order
 abbrev pub read_numbers : List ScriptLine → List ℕ
 read_numbers [] = []
