@@ -40,7 +40,7 @@ use Rattle.replica_files.specs.Breaks.{LeavesFiles}
 use Rattle.replica_files.specs.Books.{replica_of, HasLastSum, IsHeld, Takes, AreStrays, event_calls, IsBookOf, MakesEvent, StopsEvent, before_all, amid}
 use Rattle.replica_files.specs.Carried.{CarriesOut, IsAmidSettling}
 use Rattle.replica_files.specs.Steps.{IsToNote, IsAmid, IsPrepared, KeepsBook}
-use Rattle.replica_files.specs.Endings.{Notes, CallEnds, TakenEnds, Finishes, Fails, IsRefusal}
+use Rattle.replica_files.specs.Endings.{BookEnds, EndsTaken, StaysBook, Notes, CallEnds, TakenEnds, Finishes, Fails, IsRefusal}
 use Rattle.replica_files.proofs.BookLemmas.{broken_block, book_as}
 use Rattle.replica_files.proofs.LeftLemmas.{left_failed, left_kept, left_row, left_unbroken}
 use Rattle.replica_files.proofs.AmidLemmas.{amid_settled, settled_still, still_bytes}
@@ -442,3 +442,13 @@ finished_ok P old new e answer made (Err why) fin p = tt
 pub ends_barred : {F : Type 0} (f : files.Ghosts F) (old mid new : BookState F) (e : ReplicaEvent) (why : BookFault) → IsPrepared f old mid → IsRefusal f mid new e why → CallEnds f old new e (Err why)
 ends_barred f old mid new e why p ends =
     ends_prepared f old mid new e (Err why) p (ends_refused f mid mid new e why (record { block = refl; drawer = refl; last_sum = refl; history = refl; whole = refl }) ends)
+
+-- A public call that goes on from a book for which memory was taken ends as one from the book before.
+pub book_ends_prepared : {F : Type 0} (f : files.Ghosts F) (old mid new : BookState F) (e : ReplicaEvent) (result : Result Receipt BookFault) → IsPrepared f old mid → BookEnds f mid new e result → BookEnds f old new e result
+book_ends_prepared f old mid new e (Ok receipt) p ends =
+    subst (λ r. EndsTaken f old new e (record { answer = row_answer r e; receipt = receipt })) (replica_same f old mid p)
+    (ends_prepared f old mid new e (Ok (record { answer = row_answer (replica_of mid) e; receipt = receipt })) p ends)
+book_ends_prepared f old mid new e (Err why) p ends = ends_prepared f old mid new e (Err why) p ends
+
+pub stays_book : {F : Type 0} (f : files.Ghosts F) (old mid : BookState F) → IsPrepared f old mid → StaysBook f old mid
+stays_book f old mid p = record { replica = replica_same f old mid p; files = p.drawer.same; ends = λ next e result ends. book_ends_prepared f old mid next e result p ends }

@@ -1,6 +1,6 @@
 -- Events that ask for bytes.
 use Rattle.std.proofs.Common.{◌≡◌, ℕ, ◌≤◌, min, Bool, true, false, List, [], ◌∷◌, length, take, drop, nat_le, Option, Some, None, IfSome, IsSome, Result, Ok, Err, IsOk, refl, sym, ap, subst, ◌∙◌, arith}
-use Rattle.std.specs.Result.{IfOk}
+use Rattle.std.specs.Result.{IfOk, IfErr, OnOk}
 use Rattle.std.proofs.lemmas.List.{take_all, length-drop, length-take}
 use Rattle.std.proofs.lemmas.Grind.{common_steps}
 use Rattle.std.proofs.lemmas.Bool.Decides.{nat_tests}
@@ -35,11 +35,11 @@ use Rattle.replica_files.specs.Events.{IsSettling, IsCutting}
 use Rattle.replica_files.specs.Books.{replica_of, HasLastSum, IsHeld, IsBookOf, Takes, MakesEvent, before_all}
 use Rattle.replica_files.specs.Carried.{IsAmidSettling, CarriesOut}
 use Rattle.replica_files.specs.Reads.{IsReading, ReadsBytes, IsAmidReading, ReadsOut, IsAmidRead, IsReadyToRead}
-use Rattle.replica_files.specs.declared.book_state.Taken as book_state
 use Rattle.replica_files.specs.declared.faults.BookFault.{BookFault}
 use Rattle.replica_files.specs.Steps.{KeepsBook, IsPrepared}
 use Rattle.replica_files.proofs.StepLemmas.{taken_ok}
-use Rattle.replica_files.proofs.EndLemmas.{stepped_same, replica_same}
+use Rattle.replica_files.specs.Endings.{CallEnds, TakenEnds}
+use Rattle.replica_files.proofs.EndLemmas.{stepped_same, replica_same, prepared_then, book_prepared, ends_stepped}
 use Rattle.replica_files.proofs.AmidLemmas.{still_carries}
 
 -- ---- a read that is taken
@@ -92,6 +92,12 @@ if_taken P (Err e) is p = absurd (cc)
 pub record Still (r : FullReplica) (e : Event) : Type 0 where
   pub unbroken : r.known.is_broken ≡ false
   pub info : (row r (replica_event.Other e)).known.info ≡ r.known.info
+
+-- a read that is taken leaves all that is known as it is
+stays_known : (r : FullReplica) (e : Event) (offset count : ℕ) → IsReading e offset count → Takes r (replica_event.Other e) → (row r (replica_event.Other e)).known ≡ r.known
+stays_known r e offset count is takes =
+    let t = if_taken (Stays r.known) (transition r.known e) takes (reads_stay r.known e offset count is) in
+    ap (record_after r.known) t.1 ∙ t.2.same
 
 still : (r : FullReplica) (e : Event) (offset count : ℕ) → IsReading e offset count → Takes r (replica_event.Other e) → Still r e
 still r e offset count is takes =
@@ -272,7 +278,7 @@ held_mid f old mid kept held =
     (subst (λ s. IsHeld f old.drawer old.block s (replica_of old)) (sym kept.last_sum) held))
 
 -- What was read for a replica that was stepped is what the book before is asked for.
-pub read_before : {F : Type 0} (f : files.Ghosts F) (old mid : BookState F) (e : Event) (prior : Prior) (answer : Answer) (offset room : ℕ) (got : List ℕ) (result : Result book_state.Taken BookFault) → IsBookOf f old → KeepsBook old mid
+pub read_before : {F : Type 0} (f : files.Ghosts F) (old mid : BookState F) (e : Event) (prior : Prior) (answer : Answer) (offset room : ℕ) (got : List ℕ) (result : Result (Unit {0}) BookFault) → IsBookOf f old → KeepsBook old mid
     → mid.replica ≡ (row (replica_of old) (replica_event.Other e)).known → Ok answer ≡ reply (transition (replica_of old).known e) → prior.is_broken ≡ old.replica.is_broken → prior.info ≡ old.replica.info → (a : IsReadyToRead old e offset room)
     → ((x : IsAmidRead f mid (replica_event.Other e) prior answer offset room) → IfOk result (λ _. ReadsBytes (f.files mid.drawer) (replica_of mid) offset x.count got)) → IfOk result (λ _. ReadsBytes (f.files old.drawer) (replica_of old) offset a.count got)
 read_before f old mid e prior answer offset room got result book kept known answered broken_is info_is a onward =
@@ -292,7 +298,7 @@ read_before f old mid e prior answer offset room got result book kept known answ
       enough = a.enough ∙ ap (λ o. min a.count (written_at o)) (sym info_is);
     } in
     if_ok_as result (λ got_it. subst (λ r. ReadsBytes (f.files old.drawer) r offset a.count got) same (subst (λ d. ReadsBytes (f.files d) (replica_of mid) offset a.count got) kept.drawer got_it)) (onward x) where
-      if_ok_as : {P Q : Type 0} (r : Result book_state.Taken BookFault) → (P → Q) → IfOk r (λ _. P) → IfOk r (λ _. Q)
+      if_ok_as : {P Q : Type 0} (r : Result (Unit {0}) BookFault) → (P → Q) → IfOk r (λ _. P) → IfOk r (λ _. Q)
       if_ok_as (Ok t) f p = f p
       if_ok_as (Err e) f p = tt
 
@@ -300,3 +306,36 @@ read_before f old mid e prior answer offset room got result book kept known answ
 pub read_from : {F : Type 0} (f : files.Ghosts F) (old mid : BookState F) (offset count : ℕ) (got : List ℕ) → IsPrepared f old mid → ReadsBytes (f.files mid.drawer) (replica_of mid) offset count got → ReadsBytes (f.files old.drawer) (replica_of old) offset count got
 read_from f old mid offset count got p reads =
     subst (λ r. ReadsBytes (f.files old.drawer) r offset count got) (replica_same f old mid p) (subst (λ (o : Option FileMap). ReadsBytes o (replica_of mid) offset count got) p.drawer.same reads)
+
+-- ---- a book in which a read was taken, which has no entry yet
+
+-- such a book is the one before the step
+read_steps : {F : Type 0} (f : files.Ghosts F) (old mid : BookState F) (e : Event) (offset count : ℕ) (answer : Answer) → IsBookOf f old → KeepsBook old mid
+    → mid.replica ≡ (row (replica_of old) (replica_event.Other e)).known → Ok answer ≡ reply (transition (replica_of old).known e) → IsReading e offset count → IsPrepared f old mid
+read_steps f old mid e offset count answer book kept known answered reading =
+    record {
+      block = kept.block;
+      replica = known ∙ (stays_known (replica_of old) e offset count reading (taken_ok (transition (replica_of old).known e) answer answered).0 ∙ sym book.known);
+      last_sum = kept.last_sum;
+      whole = kept.whole;
+      history = record { start = ap (λ h. h.start) kept.history; entries = ap (λ h. h.entries.items) kept.history };
+      drawer = subst (KeepsAll f old.drawer) (sym kept.drawer) (record { same = refl; log = refl; room = λ name. omega arith });
+      below = subst (λ d. f.faults old.drawer ≤ f.faults d) (sym kept.drawer) (omega arith);
+    }
+
+-- and so is one that goes on from there
+pub read_prepares : {F : Type 0} (f : files.Ghosts F) (old mid new : BookState F) (e : Event) (offset count : ℕ) (answer : Answer) (result : Result (Unit {0}) BookFault) → IsBookOf f old → KeepsBook old mid
+    → mid.replica ≡ (row (replica_of old) (replica_event.Other e)).known → Ok answer ≡ reply (transition (replica_of old).known e) → IsReading e offset count → OnOk result (IsPrepared f mid new) → OnOk result (IsPrepared f old new)
+read_prepares f old mid new e offset count answer (Ok x) book kept known answered reading p = prepared_then f old mid new (read_steps f old mid e offset count answer book kept known answered reading) p
+read_prepares f old mid new e offset count answer (Err x) book kept known answered reading p = tt
+
+pub read_goes_on : {F : Type 0} (f : files.Ghosts F) (old mid new : BookState F) (e : Event) (offset count : ℕ) (answer : Answer) (result : Result (Unit {0}) BookFault) → IsBookOf f old → KeepsBook old mid
+    → mid.replica ≡ (row (replica_of old) (replica_event.Other e)).known → Ok answer ≡ reply (transition (replica_of old).known e) → IsReading e offset count → OnOk result (IsPrepared f mid new) → IfErr result (λ _. IsBookOf f new) → IsBookOf f new
+read_goes_on f old mid new e offset count answer (Ok x) book kept known answered reading p stopped =
+    book_prepared f old new (read_prepares f old mid new e offset count answer (Ok x) book kept known answered reading p) book
+read_goes_on f old mid new e offset count answer (Err x) book kept known answered reading p stopped = stopped
+
+-- a failed call on the files ends as from the book before the step
+pub read_stops : {F : Type 0} (f : files.Ghosts F) (old mid new : BookState F) (e : ReplicaEvent) (result : Result (Unit {0}) BookFault) → KeepsBook old mid → IfErr result (λ why. TakenEnds f mid new e (Err why)) → IfErr result (λ why. CallEnds f old new e (Err why))
+read_stops f old mid new e (Ok x) kept ends = tt
+read_stops f old mid new e (Err why) kept ends = ends_stepped f old mid new e (Err why) kept ends

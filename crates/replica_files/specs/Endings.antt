@@ -115,3 +115,10 @@ abbrev pub InitEnds : {F : Type 0} → files.Ghosts F → BookState F → BookSt
     Result ((ReplicaState × Stamp × ℕ) × Receipt) BookFault → Type 0
 InitEnds f old new e (Ok x) = EndsTaken f old new e (record { answer = answer.Info x.0.0 x.0.1 x.0.2; receipt = x.1 })
 InitEnds f old new e (Err why) = CallEnds f old new e (Err why)
+
+-- A book is as it was: the same replica and files, and each call that follows ends as from the book before.
+pub record StaysBook {F : Type 0} (f : files.Ghosts F) (old new : BookState F) : Type 0 where
+  pub replica : replica_of new ≡ replica_of old
+  pub files : f.files new.drawer ≡ f.files old.drawer
+  pub ends : (next : BookState F) (e : ReplicaEvent) (result : Result Receipt BookFault) →
+      BookEnds f new next e result → BookEnds f old next e result

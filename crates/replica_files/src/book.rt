@@ -1,6 +1,6 @@
 //! A replica's book.
 
-ghost use Rattle.std.specs.Prelude.{◌≡◌, ◌⊎◌, ◌<◌, ◌≤◌, false, true, [], length, option_map, IfOk, IfErr, OnOk, OnErr};
+ghost use Rattle.std.specs.Prelude.{◌≡◌, ◌⊎◌, ◌<◌, ◌≤◌, false, true, [], length, option_map, Err, IfOk, IfErr, OnOk, OnErr};
 ghost use Rattle.hd_base.specs.Faults.{FaultsIncreased};
 ghost use Rattle.hd_base.specs.FileMaps.{OnlyOf};
 ghost use Rattle.replica_core.specs.declared.ack_queue.TheConstants.{MAX_PENDING};
@@ -12,7 +12,7 @@ ghost use Rattle.replica_files.specs.Finding.{HoldsFound, IsFound, GivesBack};
 ghost use Rattle.replica_files.specs.Reads.{ReadsBytes};
 ghost use Rattle.replica_files.specs.Steps.{KeepsRest, KeepsReplica};
 ghost use Rattle.replica_files.specs.Summing.{SumsWritten, LeavesBook, SumsFor};
-ghost use Rattle.replica_files.specs.Endings.{BookEnds, InitEnds, IsReceiptOf, IsNew};
+ghost use Rattle.replica_files.specs.Endings.{BookEnds, StaysBook, InitEnds, IsReceiptOf, IsNew};
 
 use crate::book_state::{BookState, Taken};
 use crate::faults::{BookFault, FoundFault, SumFault};
@@ -190,7 +190,8 @@ impl<F: Files> ReplicaBook<F> {
         receipt_of(self.state.cut(Event::Update { recovery, length }))
     }
 
-    /// A read of which only the entry is made: its bytes are asked for afterwards, piece by piece.
+    /// A read of which only the entry is made: its bytes are asked for afterwards, piece by piece, or `read_ahead` gave
+    /// them.
     pub fn admit_read(
         &mut self,
         named: Stamp,
@@ -207,6 +208,28 @@ impl<F: Files> ReplicaBook<F> {
                 length,
             }),
         )
+    }
+
+    /// The bytes that a read asks for, of which no entry is made yet: `admit_read` makes it, once what is to be done with
+    /// them has its memory. A read that the replica refuses, or that failed at its files, has its entry at once.
+    pub fn read_ahead(
+        &mut self,
+        named: Stamp,
+        offset: u64,
+        length: u64,
+    ) -> Result<Vec<u8>, BookFault>
+        ensures stays { OnOk result (StaysBook F.Files self.old self.new) }
+        ensures ends { IfErr result (λ why. BookEnds F.Files self.old self.new
+            (ReplicaEvent.Other (Event.Read named offset length)) (Err why)) }
+        ensures bytes { IfOk result (λ bytes.
+            ReadsBytes (F.files self.old.drawer) (replica_of self.old) offset length bytes.items) }
+    {
+        let event = Event::Read {
+            named,
+            offset,
+            length,
+        };
+        self.state.read_ahead(&event, offset, length)
     }
 
     /// A read: gives `into` the bytes that it asks for, in place of what that held. `into` stays as it was
