@@ -432,12 +432,6 @@ ends_refused f old mid new e (fault.Refused x receipt) k ends =
 ends_refused f old mid new e (fault.File receipt) k ends = absurd ends
 ends_refused f old mid new e fault.Memory k ends = absurd ends
 
--- what comes with an event that was taken comes where its calls were made
-pub finished_ok : {F : Type 0} (P : Type 0) (old new : BookState F) (e : ReplicaEvent) (answer : Answer) (made : Result ℕ FileError) (result : Result Taken BookFault) → Finishes old new e answer made result → IfOk made (λ _. P) → IfOk result (λ _. P)
-finished_ok P old new e answer (Ok sum) (Ok taken) fin p = p
-finished_ok P old new e answer (Err x) (Ok taken) fin p = absurd fin
-finished_ok P old new e answer made (Err why) fin p = tt
-
 -- A refusal from a book whose history has room.
 pub ends_barred : {F : Type 0} (f : files.Ghosts F) (old mid new : BookState F) (e : ReplicaEvent) (why : BookFault) → IsPrepared f old mid → IsRefusal f mid new e why → CallEnds f old new e (Err why)
 ends_barred f old mid new e why p ends =
