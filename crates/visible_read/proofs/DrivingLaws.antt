@@ -14,8 +14,8 @@ use Rattle.pipe_turns.specs.ReplicaFiles.Books.{replica_of}
 use Rattle.request_refusals.specs.declared.refusals.RequestRefusal.{RequestRefusal}
 use Rattle.read_core.specs.declared.serving.ServePhase.{ServePhase}
 use Rattle.read_core.specs.Servings.{ServingState, piece_len, packet_of, gone_on, sent_in, sent, most_bytes}
-use Rattle.pipe_turns.specs.declared.turning.Done.{Done}
-use Rattle.pipe_turns.specs.declared.turning.Done.TheVariants as done
+use Rattle.visible_read.specs.declared.sending.Sending.{Sending}
+use Rattle.visible_read.specs.declared.sending.Sending.TheVariants as sending
 use Rattle.visible_read.specs.declared.answering.Course.{Course}
 use Rattle.visible_read.specs.declared.answering.Course.TheVariants as course
 use Rattle.frame_feed.specs.declared.notes.Message.{Message}
@@ -53,13 +53,9 @@ answered-on : (x : Result ServingState RequestRefusal) (r : Message) (receipt : 
 answered-on (Ok s) r receipt h = tt
 answered-on (Err e) r receipt h = none-some _ _ h
 
-told-on : (x : Result ServingState RequestRefusal) (r : Response) (receipt : Option Receipt) (d : Done) → (told x r receipt d).served ≡ None → IsSending (told x r receipt d).course
-told-on x r receipt (done.Taken b) h = answered-on x (reply.Response r) receipt h
-told-on x r receipt (done.Refused e b) h = answered-on x (reply.Response r) receipt h
-told-on x r receipt (done.File b) h = answered-on x (reply.Response r) receipt h
-told-on x r receipt (done.MirrorFailed b) h = answered-on x (reply.Response r) receipt h
-told-on x r receipt (done.LinkFailed b) h = none-some _ _ h
-told-on x r receipt done.Memory h = none-some _ _ h
+told-on : (x : Result ServingState RequestRefusal) (r : Response) (receipt : Option Receipt) (d : Sending) → (told x r receipt d).served ≡ None → IsSending (told x r receipt d).course
+told-on x r receipt sending.Sent h = answered-on x (reply.Response r) receipt h
+told-on x r receipt sending.LinkFailed h = none-some _ _ h
 
 -- ---- a packet
 
@@ -83,14 +79,10 @@ passed-by : (b : Bool) (s : ServingState) (p : Packet) (receipt : Receipt) → I
 passed-by true s p receipt n last h = none-some _ _ h
 passed-by false s p receipt n last h = record { sending = tt; less = sent-less s n (sym last) }
 
-passed-on : (s : ServingState) (body : List ℕ) (receipt : Receipt) (d : Done) → IsNext s
+passed-on : (s : ServingState) (body : List ℕ) (receipt : Receipt) (d : Sending) → IsNext s
     → (passed s (packet_of s body) receipt d).served ≡ None → Lessens (weight (course.Sending s)) (passed s (packet_of s body) receipt d)
-passed-on s body receipt (done.Taken b) n h = passed-by (packet_of s body).last s (packet_of s body) receipt n (is-last s body) h
-passed-on s body receipt (done.Refused e b) n h = passed-by (packet_of s body).last s (packet_of s body) receipt n (is-last s body) h
-passed-on s body receipt (done.File b) n h = passed-by (packet_of s body).last s (packet_of s body) receipt n (is-last s body) h
-passed-on s body receipt (done.MirrorFailed b) n h = passed-by (packet_of s body).last s (packet_of s body) receipt n (is-last s body) h
-passed-on s body receipt (done.LinkFailed b) n h = none-some _ _ h
-passed-on s body receipt done.Memory n h = none-some _ _ h
+passed-on s body receipt sending.Sent n h = passed-by (packet_of s body).last s (packet_of s body) receipt n (is-last s body) h
+passed-on s body receipt sending.LinkFailed n h = none-some _ _ h
 
 faulted-ends : (s : ServingState) (e : BookFault) → (faulted s e).served ≡ None → (P : Type 0) → P
 faulted-ends s (fault.Refused e receipt) h P = none-some P _ h
@@ -104,7 +96,7 @@ module _ {F O : Type 0} (f : files.Ghosts F) (o : link_out.Ghosts O) where
       → TellsIf o x receipt out out' took → took.served ≡ None → IsSending took.course
   tells-on None receipt out out' took t h = none-some _ _ (sym (ap (λ (t : Took). t.served) t.0) ∙ h)
   tells-on (Some x) receipt out out' took t h =
-      subst (λ (t : Took). t.served ≡ None → IsSending t.course) (sym t.follows) (told-on x _ receipt t.done) h
+      subst (λ (t : Took). t.served ≡ None → IsSending t.course) (sym t.follows) (told-on x _ receipt t.sending) h
 
   answers-on : (op : ReadOp) (book book' : BookState F) (out out' : O) (took : Took)
       → Answers f o op book book' out out' took → took.served ≡ None → IsSending took.course
@@ -113,7 +105,7 @@ module _ {F O : Type 0} (f : files.Ghosts F) (o : link_out.Ghosts O) where
   all-on : (b : Bool) (s : ServingState) (receipt : Receipt) (body : List ℕ) (out out' : O) (took : Took) → IsNext s
       → PassesAll o b s receipt body out out' took → took.served ≡ None → Lessens (weight (course.Sending s)) took
   all-on true s receipt body out out' took n p h =
-      subst (λ (t : Took). t.served ≡ None → Lessens (weight (course.Sending s)) t) (sym p.follows) (passed-on s body receipt p.done n) h
+      subst (λ (t : Took). t.served ≡ None → Lessens (weight (course.Sending s)) t) (sym p.follows) (passed-on s body receipt p.sending n) h
   all-on false s receipt body out out' took n p h = none-some _ _ (sym (ap (λ (t : Took). t.served) p.0) ∙ h)
 
   sends-on : (s : ServingState) (book book' : BookState F) (out out' : O) (took : Took) → IsNext s

@@ -1,3 +1,4 @@
+pub mod SendingLaws
 pub mod ReadLemmas
 pub mod PacketLemmas
 pub mod DrivingLaws

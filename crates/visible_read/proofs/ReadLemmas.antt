@@ -1,5 +1,5 @@
 -- A read at a replica, by what its book answers.
-use Rattle.std.proofs.Common.{◌≡◌, ◌+◌, ◌-◌, ◌^◌, ℕ, nat_le, Bool, true, false, not, if◌then◌else◌, Option, Some, None, option_map, Result, Ok, Err, refl, sym, ap, subst, ◌∙◌}
+use Rattle.std.proofs.Common.{◌≡◌, ◌+◌, ◌-◌, ◌^◌, ℕ, nat_le, Bool, true, false, not, if◌then◌else◌, Option, Some, None, option_map, Result, Ok, Err, inl, inr, refl, sym, ap, subst, ◌∙◌}
 use Rattle.std.specs.Prelude.{IsOk}
 use Rattle.std.specs.Option.{option_and_then}
 use Rattle.hd_base.specs.Results.{◌>>=◌}
@@ -34,7 +34,11 @@ use Rattle.read_core.specs.Servings.{ServingState, begun, begun_as, begun_at, re
 use Rattle.visible_read.specs.declared.answering.Took.{Took}
 use Rattle.visible_read.specs.Laws.{FollowsAt}
 use Rattle.visible_read.specs.Sound.{IsNext}
-use Rattle.visible_read.specs.Answers.{IsAsked, Asks, TellsIf, Answers, begun_in, begun_with, begun_by, receipt_in}
+use Rattle.link_pieces.specs.Pieces.{SendsNothing}
+use Rattle.pipe_turns.proofs.StillLemmas.{unmade}
+use Rattle.visible_read.specs.declared.answering.Course.TheVariants as course
+use Rattle.visible_read.specs.Answers.{IsAsked, Asks, Tells, TellsIf, Answers, Refuses, wanting, begun_with, receipt_in}
+use Rattle.visible_read.proofs.SendingLaws.{tells_if_after}
 
 -- a read that is begun has its first packet next
 pub begun-next : (op : ReadOp) (rule : Rule) (visible : ℕ) → IsChunkSize rule.chunk → IsNext (begun op rule visible)
@@ -50,54 +54,8 @@ in-pool op e h = go (is_in_pool op.block) h
     go true h = refl
     go false h = cc
 
--- ---- a read that is taken
-
-abbrev IsTaken : Outcome → Type 0
-IsTaken x = IsOk x
-
-visible_taken : (op : ReadOp) (c : ReplicaRecord) (h : ReplicaInfo) (v : ℕ) (x : Result ℕ Refusal) → ((u : ℕ) → x ≡ Ok u → u ≡ v)
-    → IsTaken (x >>= (λ u. Ok (record { replica = c; answer = answer.Visible u }))) → begun_as op (Some h.sums) (answer_of (reply (x >>= (λ u. Ok (record { replica = c; answer = answer.Visible u }))))) ≡ begun_in op (Some h.sums) (Some v)
-visible_taken op c h v (Ok u) same ok = ap (λ n. Ok (begun op h.sums n)) (same u refl)
-visible_taken op c h v (Err e) same ok = cc
-
-readable_is : (h : ReplicaInfo) (v : ℕ) (named : Stamp) (offset n u : ℕ) → readable h (Some v) named offset n ≡ Ok u → u ≡ v
-unfolding readable
-readable_is h v named offset n u e = go (nat_le named.0 h.stamp.0) (nat_le (offset + n) v) e
-  where
-    go : (a b : Bool) → check a (core_refusal.Stale h.stamp named (record { 0 = 2 ^ 64 - 1 })) (check b (core_refusal.OutOfRange v) (Ok v)) ≡ Ok u → u ≡ v
-    go true true e = cc
-    go true false e = cc
-    go false b e = cc
-
-hidden_read : (h : ReplicaInfo) (c : ReplicaRecord) (named : Stamp) (offset n : ℕ) → IsTaken (readable h None named offset n >>= (λ u. Ok (record { replica = c; answer = answer.Visible u }))) → ⊥
-unfolding readable
-hidden_read h c named offset n ok = cc
-
-info_taken : (op : ReadOp) (c : ReplicaRecord) (h : ReplicaInfo) (v : Option ℕ) →
-    IsTaken (readable h v op.block.stamp op.offset op.len >>= (λ u. Ok (record { replica = c; answer = answer.Visible u })))
-    → begun_as op (Some h.sums) (answer_of (reply (readable h v op.block.stamp op.offset op.len >>= (λ u. Ok (record { replica = c; answer = answer.Visible u }))))) ≡ begun_in op (Some h.sums) v
-info_taken op c h None ok = absurd (hidden_read h c op.block.stamp op.offset op.len ok)
-info_taken op c h (Some v) ok = visible_taken op c h v _ (readable_is h v op.block.stamp op.offset op.len) ok
-
-present_taken : (op : ReadOp) (c : ReplicaRecord) (broken : Bool) (i : Option ReplicaInfo) →
-    IsTaken (check (not broken) core_refusal.Broken (there i) >>= (λ h. readable h (visible_of h) op.block.stamp op.offset op.len >>= (λ u. Ok (record { replica = c; answer = answer.Visible u }))))
-    → begun_as op (option_map (λ h. h.sums) i) (answer_of (reply (check (not broken) core_refusal.Broken (there i) >>= (λ h. readable h (visible_of h) op.block.stamp op.offset op.len >>= (λ u. Ok (record { replica = c; answer = answer.Visible u }))))))
-    ≡ begun_in op (option_map (λ h. h.sums) i) (option_and_then visible_of i)
-present_taken op c true i ok = cc
-present_taken op c false None ok = cc
-present_taken op c false (Some h) ok = info_taken op c h (visible_of h) ok
-
-taken : (op : ReadOp) (c : ReplicaRecord) → IsTaken (transition c (event.Read op.block.stamp op.offset op.len)) →
-    begun_as op (rule_in c) (answer_to c (event.Read op.block.stamp op.offset op.len)) ≡ begun_in op (rule_in c) (visible_in c)
-unfolding transition
-taken op c ok = present_taken op c c.is_broken c.info ok
-
 at-asked : (op : ReadOp) (r : FullReplica) → IsAsked op → read_at op r ≡ begun_as op (rule_in r.known) (answer_to r.known (event.Read op.block.stamp op.offset op.len))
 at-asked op r h = ap (begun_at op r) h
-
-refused_as : (op : ReadOp) (rule : Option Rule) (e : Refusal) → begun_as op rule (answer.Refused e) ≡ Err (refusal.Core e)
-refused_as op None e = refl
-refused_as op (Some rule) e = refl
 
 -- ---- what the book answers
 
@@ -106,33 +64,41 @@ module _ {F O : Type 0} (f : files.Ghosts F) (o : link_out.Ghosts O) where
       → BookEnds f book book' (replica_event.Other (event.Read op.block.stamp op.offset op.len)) booked → Asks f (read_event op) book book' (Some booked)
   asks op book book' booked h ends = subst (λ x. Asks f x book book' (Some booked)) (sym h) ends
 
-  -- the answer is the one at the replica, by what the book answered
-  begun-by : (op : ReadOp) (book book' : BookState F) (booked : Result Receipt BookFault) (x : Result ServingState RequestRefusal) → IsAsked op
-      → BookEnds f book book' (replica_event.Other (event.Read op.block.stamp op.offset op.len)) booked
-      → x ≡ begun_in op (rule_in (replica_of book).known) (visible_in (replica_of book).known)
-      → begun_with x booked ≡ begun_by op (replica_of book) (Some booked)
-  begun-by op book book' (Ok receipt) x h ends is =
-      ap Some (is ∙ sym (at-asked op (replica_of book) h ∙ taken op (replica_of book).known ends.takes))
-  begun-by op book book' (Err (fault.Refused e receipt)) x h ends is =
-      ap Some (sym (at-asked op (replica_of book) h
-      ∙ ap (λ x. begun_as op (rule_in (replica_of book).known) (answer_of (reply x))) ends.refused
-      ∙ refused_as op (rule_in (replica_of book).known) e))
-  begun-by op book book' (Err (fault.File receipt)) x h ends is = refl
-  begun-by op book book' (Err fault.Memory) x h ends is = refl
-
-  pub answers : (op : ReadOp) (book book' : BookState F) (out out' : O) (took : Took) (booked : Result Receipt BookFault)
+  -- what was booked is answered as it is at the replica
+  pub answers : (op : ReadOp) (book book' : BookState F) (out mid out' : O) (took : Took) (booked : Result Receipt BookFault)
       (k : ReplicaRecord) (x : Result ServingState RequestRefusal) → IsAsked op
       → BookEnds f book book' (replica_event.Other (event.Read op.block.stamp op.offset op.len)) booked
-      → k ≡ book.replica → IsBookOf f book → x ≡ begun_in op (rule_in k) (visible_in k)
-      → TellsIf o (begun_with x booked) (receipt_in (Some booked)) out out' took → Answers f o op book book' out out' took
-  answers op book book' out out' took booked k x h ends is held begun tells = record {
+      → k ≡ book.replica → IsBookOf f book → x ≡ begun_as op (rule_in k) (answer_to k (event.Read op.block.stamp op.offset op.len))
+      → SendsNothing o out mid → TellsIf o (begun_with x booked) (receipt_in (Some booked)) mid out' took → Answers f o op book book' out out' took
+  answers op book book' out mid out' took booked k x h ends is held begun quiet tells = record {
     booked = Some booked;
     asks = asks op book book' booked h ends;
-    tells = subst (λ y. TellsIf o y (receipt_in (Some booked)) out out' took)
-        (begun-by op book book' booked x h ends (begun ∙ ap (λ c. begun_in op (rule_in c) (visible_in c)) (is ∙ held.known))) tells;
+    tells = subst (λ y. TellsIf o (begun_with y booked) (receipt_in (Some booked)) out out' took)
+        (begun ∙ (ap (λ c. begun_as op (rule_in c) (answer_to c (event.Read op.block.stamp op.offset op.len))) (is ∙ held.known) ∙ sym (at-asked op (replica_of book) h)))
+        (tells_if_after o (begun_with x booked) (receipt_in (Some booked)) out mid out' took quiet tells);
+  }
+
+  -- memory ran out before
+  pub wants-asked : (op : ReadOp) (book : BookState F) (out out' : O) (took : Took) → IsAsked op → SendsNothing o out out' → took ≡ wanting course.Asked → Answers f o op book book out out' took
+  wants-asked op book out out' took h quiet is = record { booked = Some (Err fault.Memory); asks = asks op book book (Err fault.Memory) h (unmade f book); tells = (is, quiet) }
+
+  -- a read that isn't booked
+  pub refuses : (op : ReadOp) (why : RequestRefusal) (book : BookState F) (out out' : O) (took : Took) → read_event op ≡ Err why → Refuses o why out out' took → Answers f o op book book out out' took
+  refuses op why book out out' took h (inl tells) = record {
+    booked = None;
+    asks = subst (λ x. Asks f x book book None) (sym h) refl;
+    tells = subst (λ x. Tells o x None out out' took) (sym (ap (begun_at op (replica_of book)) h)) tells;
+  }
+  refuses op why book out out' took h (inr want) = record {
+    booked = Some (Err fault.Memory);
+    asks = subst (λ x. Asks f x book book (Some (Err fault.Memory))) (sym h) refl;
+    tells = want;
   }
 
 -- ---- a packet that is taken
+
+abbrev IsTaken : Outcome → Type 0
+IsTaken x = IsOk x
 
 visible_read : (c : ReplicaRecord) (h : ReplicaInfo) (x : Result ℕ Refusal)
     → IsTaken (x >>= (λ u. Ok (record { replica = c; answer = answer.Visible u }))) → (v : ℕ) × (answer_of (reply (x >>= (λ u. Ok (record { replica = c; answer = answer.Visible u })))) ≡ answer.Visible v)

@@ -1,4 +1,5 @@
 pub mod Sound
+pub mod Sendings
 pub mod Answers
 pub mod Packets
 pub mod Servings

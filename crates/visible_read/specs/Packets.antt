@@ -15,9 +15,10 @@ use Rattle.pipe_turns.specs.ReplicaFiles.Books.{replica_of}
 use Rattle.pipe_turns.specs.ReplicaFiles.Endings.{BookEnds}
 use Rattle.pipe_turns.specs.ReplicaFiles.Reads.{ReadsBytes}
 use Rattle.read_core.specs.Servings.{ServingState, piece_len, piece_event, packet_of, sent}
-use Rattle.pipe_turns.specs.Turning.{SendsAlone}
-use Rattle.pipe_turns.specs.declared.turning.Done.{Done}
-use Rattle.pipe_turns.specs.declared.turning.Done.TheVariants as done
+use Rattle.link_pieces.specs.Pieces.{SendsNothing}
+use Rattle.visible_read.specs.Sendings.{SendsText}
+use Rattle.visible_read.specs.declared.sending.Sending.{Sending}
+use Rattle.visible_read.specs.declared.sending.Sending.TheVariants as sending
 use Rattle.visible_read.specs.declared.answering.Course.TheVariants as course
 use Rattle.frame_feed.specs.declared.notes.Message.TheVariants as reply
 use Rattle.visible_read.specs.declared.answering.Served.TheVariants as served
@@ -28,7 +29,12 @@ use Rattle.visible_read.specs.Answers.{wanting, ended}
 abbrev pub faulted : ServingState → BookFault → Took
 faulted s (fault.Refused refusal receipt) = ended (Some receipt) None (served.Refused refusal)
 faulted s (fault.File receipt) = ended (Some receipt) None served.File
-faulted s fault.Memory = wanting None (course.Sending s)
+faulted s fault.Memory = wanting (course.Sending s)
+
+-- what follows where there are fewer bytes than the replica has
+abbrev pub lacking : ServingState → Result Receipt BookFault → Took
+lacking s (Ok receipt) = ended (Some receipt) None served.File
+lacking s (Err why) = faulted s why
 
 -- a packet was sent: the next one follows, or it was the last one
 abbrev pub passed_by : Bool → ServingState → Packet → Receipt → Took
@@ -45,17 +51,16 @@ abbrev pub passed_on : ServingState → Packet → Receipt → Took
 passed_on s p receipt = passed_by p.last s p receipt
 
 -- what follows of a packet, by how it was sent
-abbrev pub passed : ServingState → Packet → Receipt → Done → Took
-passed s p receipt done.Memory = wanting (Some receipt) (course.Sending s)
-passed s p receipt (done.LinkFailed booked) = ended (Some receipt) None served.LinkFailed
-passed s p receipt other = passed_on s p receipt
+abbrev pub passed : ServingState → Packet → Receipt → Sending → Took
+passed s p receipt sending.Sent = passed_on s p receipt
+passed s p receipt sending.LinkFailed = ended (Some receipt) None served.LinkFailed
 
 -- A packet is sent as one piece.
 pub record Passes {O : Type 0} (o : link_out.Ghosts O) (s : ServingState) (p : Packet) (receipt : Receipt) (out out' : O)
     (took : Took) : Type 0 where
-  pub done : Done
-  pub sent : SendsAlone o (Some (packet_text p)) done out out'
-  pub follows : took ≡ passed s p receipt done
+  pub sending : Sending
+  pub sent : SendsText o (Some (packet_text p)) sending out out'
+  pub follows : took ≡ passed s p receipt sending
 
 -- The next packet is sent, where there are all its bytes; else the read has ended.
 abbrev pub PassesAll : {O : Type 0} → link_out.Ghosts O → Bool → ServingState → Receipt → List ℕ → O → O → Took → Type 0
@@ -64,6 +69,19 @@ PassesAll o false s receipt body out out' took = (took ≡ ended (Some receipt) 
 
 abbrev pub PassesBody : {O : Type 0} → link_out.Ghosts O → ServingState → Receipt → List ℕ → O → O → Took → Type 0
 PassesBody o s receipt body out out' took = PassesAll o (length body == piece_len s) s receipt body out out' took
+
+-- What is sent with these bytes, by what the book answered.
+abbrev pub SendsWith : {O : Type 0} → link_out.Ghosts O → ServingState → List ℕ → Result Receipt BookFault → O → O →
+    Took → Type 0
+SendsWith o s body (Ok receipt) out out' took = PassesBody o s receipt body out out' took
+SendsWith o s body (Err why) out out' took = (took ≡ faulted s why) × SendsNothing o out out'
+
+-- The next packet of a read is booked, and sent with these bytes.
+pub record SendsBody {F O : Type 0} (f : files.Ghosts F) (o : link_out.Ghosts O) (s : ServingState) (body : List ℕ)
+    (book book' : BookState F) (out out' : O) (took : Took) : Type 0 where
+  pub booked : Result Receipt BookFault
+  pub ends : BookEnds f book book' (replica_event.Other (piece_event s)) booked
+  pub sends : SendsWith o s body booked out out' took
 
 -- The bytes are the replica's, where files are observable, and go into the packet.
 pub record Reads {O : Type 0} (o : link_out.Ghosts O) (files : Option FileMap) (r : FullReplica) (s : ServingState)
@@ -76,9 +94,9 @@ pub record Reads {O : Type 0} (o : link_out.Ghosts O) (files : Option FileMap) (
 abbrev pub SendsBooked : {O : Type 0} → link_out.Ghosts O → Option FileMap → FullReplica → ServingState →
     Result Receipt BookFault → O → O → Took → Type 0
 SendsBooked o files r s (Ok receipt) out out' took = Reads o files r s receipt out out' took
-SendsBooked o files r s (Err why) out out' took = (took ≡ faulted s why) × (out' ≡ out)
+SendsBooked o files r s (Err why) out out' took = (took ≡ faulted s why) × SendsNothing o out out'
 
--- The next packet of a read is booked, and sent.
+-- The next packet of a read is booked, and sent. Memory for it was taken before.
 pub record SendsNext {F O : Type 0} (f : files.Ghosts F) (o : link_out.Ghosts O) (s : ServingState)
     (book book' : BookState F) (out out' : O) (took : Took) : Type 0 where
   pub booked : Result Receipt BookFault

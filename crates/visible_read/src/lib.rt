@@ -9,6 +9,7 @@ mod laws;
 mod packets;
 mod reading;
 mod reading_back;
+mod sending;
 mod serving;
 mod talking;
 

@@ -1,23 +1,27 @@
 //! The packets of a read.
 
 ghost use Rattle.std.specs.Prelude.{◌≡◌, ◌==◌, length, IfOk};
-ghost use Rattle.hd_base.specs.SumRules.{IsChunkSize};
 ghost use Rattle.packet_codec.specs.Packets.{packet_text};
-ghost use Rattle.read_core.specs.Servings.{piece_len, packet_of};
+ghost use Rattle.replica_core.specs.declared.events.Event.TheVariants as Event;
+ghost use Rattle.read_core.specs.ReplicaModel.ReplicaEvent.TheVariants as ReplicaEvent;
+ghost use Rattle.read_core.specs.Servings.{piece_len, piece_event, packet_of};
+ghost use Rattle.pipe_turns.specs.ReplicaFiles.Endings.{BookEnds};
 ghost use Rattle.visible_read.specs.Sound.{IsNext, IsSound};
-ghost use Rattle.visible_read.specs.Packets.{SendsNext, PassesBody, faulted, passed, passed_on};
+ghost use Rattle.visible_read.specs.Packets.{SendsNext, SendsBody, faulted, lacking, passed, passed_on};
 
 use crate::answering::{Course, Served, Took, ended, wanting};
+use crate::sending::{Sending, make_room, send_text};
 use bytes::Bytes;
 use frame_feed::Message;
-use hd_base::{Files, LinkOut, Receipt};
+use hd_base::{Files, LinkOut, Receipt, Stamp};
 use packet_codec::{Packet, encode_packet};
-use pipe_turns::{BookFault, Done, ReplicaBook, send_alone};
+use pipe_turns::{BookFault, ReplicaBook};
 use read_core::Serving as CoreServing;
 use replica_core::Event;
 use std::alloc::{AllocError, Global};
 
-/// Books the next packet of a read, and sends it: its bytes are read once, into its body.
+/// Books the next packet of a read, and sends it: its bytes are read once, into its body. They are read and written as
+/// they are sent before the read is booked, so that nothing is booked for want of memory.
 pub(crate) fn send_next<F: Files, O: LinkOut>(
     alloc: Global,
     book: &mut ReplicaBook<F>,
@@ -27,6 +31,18 @@ pub(crate) fn send_next<F: Files, O: LinkOut>(
     requires { IsNext core.now }
     ensures sends { SendsNext F.Files O.LinkOut core.now book.old book.new out.old out.new result }
     ensures sound { IsSound result.course }
+{
+    let (named, offset, length) = asked(core);
+    match book.read_ahead(named, offset, length) {
+        Ok(body) => pass(alloc, book, core, body, out),
+        Err(fault) => faulted(core, fault),
+    }
+}
+
+/// What the next packet asks the book for: the stamp that is named, the offset and the length.
+fn asked(core: &CoreServing) -> (Stamp, u64, u64)
+    requires { IsNext core.now }
+    ensures { Event.Read result.0 result.1 result.2 ≡ piece_event core.now }
 {
     let Some(event) = core.next_call() else {
         unreachable!();
@@ -39,9 +55,55 @@ pub(crate) fn send_next<F: Files, O: LinkOut>(
     else {
         unreachable!();
     };
-    let mut body = Vec::new(alloc);
-    match book.read(named, offset, length, &mut body) {
-        Ok(receipt) => pass(alloc, core, receipt, body, out),
+    (named, offset, length)
+}
+
+/// Books the next packet, and sends it with these bytes of the replica, which are fewer only where its files are not
+/// observable.
+fn pass<F: Files, O: LinkOut>(
+    alloc: Global,
+    book: &mut ReplicaBook<F>,
+    core: &CoreServing,
+    body: Vec<u8>,
+    out: &mut O,
+) -> Took
+    requires { IsNext core.now }
+    ensures sends { SendsBody F.Files O.LinkOut core.now body.items book.old book.new out.old out.new result }
+    ensures sound { IsSound result.course }
+{
+    if body.len() as u64 != core.piece_len() {
+        return lacking(core, admit(book, core));
+    }
+    let Ok((packet, text)) = written(alloc, core, body) else {
+        return wanting(Course::Sending(*core));
+    };
+    let text = Some(text);
+    if make_room(alloc, &text, out).is_err() {
+        return wanting(Course::Sending(*core));
+    }
+    match admit(book, core) {
+        Ok(receipt) => passed(core, packet, receipt, send_text(&text, out)),
+        Err(fault) => faulted(core, fault),
+    }
+}
+
+/// Books the next packet.
+fn admit<F: Files>(book: &mut ReplicaBook<F>, core: &CoreServing) -> Result<Receipt, BookFault>
+    requires { IsNext core.now }
+    ensures { BookEnds F.Files book.old book.new (ReplicaEvent.Other (piece_event core.now)) result }
+{
+    let (named, offset, length) = asked(core);
+    book.admit_read(named, offset, length)
+}
+
+/// What follows where there are fewer bytes than the replica has.
+fn lacking(core: &CoreServing, booked: Result<Receipt, BookFault>) -> Took
+    requires { IsNext core.now }
+    ensures value { result ≡ lacking core.now booked }
+    ensures sound { IsSound result.course }
+{
+    match booked {
+        Ok(receipt) => ended(Some(receipt), None, Served::File),
         Err(fault) => faulted(core, fault),
     }
 }
@@ -57,30 +119,8 @@ fn faulted(core: &CoreServing, fault: BookFault) -> Took
             ended(Some(receipt), None, Served::Refused(refusal))
         }
         BookFault::File(receipt) => ended(Some(receipt), None, Served::File),
-        BookFault::Memory => wanting(None, Course::Sending(*core)),
+        BookFault::Memory => wanting(Course::Sending(*core)),
     }
-}
-
-/// Sends the next packet with these bytes of the replica, which are fewer only where its files are not observable.
-fn pass<O: LinkOut>(
-    alloc: Global,
-    core: &CoreServing,
-    receipt: Receipt,
-    body: Vec<u8>,
-    out: &mut O,
-) -> Took
-    requires { IsNext core.now }
-    ensures passes { PassesBody O.LinkOut core.now receipt body.items out.old out.new result }
-    ensures sound { IsSound result.course }
-{
-    if body.len() as u64 != core.piece_len() {
-        return ended(Some(receipt), None, Served::File);
-    }
-    let Ok((packet, text)) = written(alloc, core, body) else {
-        return wanting(Some(receipt), Course::Sending(*core));
-    };
-    let done = send_alone(alloc, &Some(text), out);
-    passed(core, packet, receipt, done)
 }
 
 /// The next packet with these bytes, and how it is written.
@@ -102,16 +142,15 @@ fn written(
 }
 
 /// What follows of a packet.
-fn passed(core: &CoreServing, packet: Packet, receipt: Receipt, done: Done) -> Took
+fn passed(core: &CoreServing, packet: Packet, receipt: Receipt, sending: Sending) -> Took
     requires next { IsNext core.now }
     requires ends { packet.last ≡ (piece_len core.now == 0) }
-    ensures value { result ≡ passed core.now packet receipt done }
+    ensures value { result ≡ passed core.now packet receipt sending }
     ensures sound { IsSound result.course }
 {
-    match done {
-        Done::Memory => wanting(Some(receipt), Course::Sending(*core)),
-        Done::LinkFailed { .. } => ended(Some(receipt), None, Served::LinkFailed),
-        _ => passed_on(core, packet, receipt),
+    match sending {
+        Sending::Sent => passed_on(core, packet, receipt),
+        Sending::LinkFailed => ended(Some(receipt), None, Served::LinkFailed),
     }
 }
 

@@ -61,7 +61,7 @@ impl Serving {
     }
 
     /// Answers the request, or sends the next packet as one piece; `None` exactly where a packet is still to be sent.
-    /// After `Memory` nothing was sent, and the next step does the same again.
+    /// After `Memory` nothing was booked or sent, and the next step does the same again.
     pub fn step<F: Files, O: LinkOut>(
         &mut self,
         alloc: Global,
