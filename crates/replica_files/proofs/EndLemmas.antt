@@ -1,6 +1,6 @@
 -- How a call of a book ends, once the calls on the files were made or one failed.
 use Rattle.std.proofs.Common.{◌≡◌, ℕ, ◌<◌, ◌^◌, Bool, true, false, List, [], ◌∷◌, ◌++◌, length, Option, Some, None, option_map, IfSome, Result, Ok, Err, refl, sym, ap, subst, ◌∙◌, arith}
-use Rattle.std.specs.Result.{IfOk, IsErr}
+use Rattle.std.specs.Result.{IsErr}
 use Rattle.hd_base.specs.Bytes.{IsBytes}
 use Rattle.hd_base.proofs.ByteLaws.{IsBytes-behind, IsBytes-cons, IsBytes-take}
 use Rattle.hd_base.specs.FileMaps.{FileMap, OnlyOf}

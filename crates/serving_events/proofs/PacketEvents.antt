@@ -1,5 +1,5 @@
 -- A node sends the next packet of a read that it serves: what is left shows the world after the event.
-use Rattle.std.proofs.Common.{◌≡◌, inl, ℕ, Bool, true, false, not, List, [], ◌∷◌, map, Option, Some, None, IfSome, Result, Ok, Err, refl, sym, ap, ◌∙◌, subst}
+use Rattle.std.proofs.Common.{◌≡◌, ℕ, Bool, true, false, not, List, [], ◌∷◌, map, Option, Some, None, IfSome, Result, Ok, Err, refl, sym, ap, inr, ◌∙◌, subst}
 use Rattle.hd_base.specs.FileMaps.{FileMap}
 use Rattle.hd_base.specs.Faults.{FaultsIncreased}
 use Rattle.hd_base.specs.declared.files.Files as files
@@ -40,6 +40,7 @@ use Rattle.member_events.specs.WorldNets.Steps.{SendsBy}
 use Rattle.member_events.specs.Beginning.{Closes}
 use Rattle.member_events.proofs.CauseLaws.{out_failed}
 use Rattle.member_events.proofs.EndLaws.{HeldAt, RoadsAt, end_held, end_sends}
+use Rattle.link_pieces.specs.Pieces.{SendsNothing}
 use Rattle.member_events.proofs.TurnEnds.{HasSaid}
 use Rattle.serving_events.specs.declared.faults.ServeFault.{ServeFault}
 use Rattle.serving_events.specs.declared.faults.ServeFault.TheVariants as fault
@@ -134,15 +135,15 @@ module _ {F R I O : Type 0} (f : files.Ghosts F) (r : roads.Ghosts R I O) (i : l
     sends : SendsBy w k (lower_flush conn.0 true [] ∷ [])
     replica : AfterChange w (happens w x) conn.0 k → replica_of book' ≡ replica_at (happens w x) conn.0 b
 
-  served_shut : (took : Took) → HasStepped took → (x : WorldEvent) (k : Change) → ClosesBy x k → st.read.end.outward ≡ read.end.outward → Closes r i o st.read.end road road' → HasEnded r i o w net (happens w x) conn.0 b book' road'
+  served_shut : (took : Took) → HasStepped took → (x : WorldEvent) (k : Change) → ClosesBy x k → SendsNothing o read.end.outward st.read.end.outward → Closes r i o st.read.end road road' → HasEnded r i o w net (happens w x) conn.0 b book' road'
   served_shut took h x k by none cl =
       let c : ℕ = conn.0 in
       let over : Bool = is_over w c true in
       let a = after_change w w c k x by.out by.here by.none in
-      let m = closed r i o w w net x c k [] (held_by over) road road' st.read.end (record { out = by.out; is_net = h.stands.roads_are.is_net; roads_at = roads_at took h; held = said took h None (inl none); sends = by.sends }) cl in
+      let m = closed r i o w w net x c k [] (held_by over) road road' st.read.end (record { out = by.out; is_net = h.stands.roads_are.is_net; roads_at = roads_at took h; held = said took h None (inr none); sends = by.sends }) cl in
       record { made = m.made; roads_are = m.roads_are; lower = a.lower ∙ by.over; replica = by.replica a; others = m.others }
 
-  refused_by : (took : Took) → HasStepped took → (x : IsRefused s book book' read.end.outward st.read.end.outward took) → ClosesBy (event.Ready conn) (piece_change w conn.0 b (early_end s))
+  refused_by : (took : Took) → HasStepped took → (x : IsRefused o s book book' read.end.outward st.read.end.outward took) → ClosesBy (event.Ready conn) (piece_change w conn.0 b (early_end s))
   refused_by took h x =
       let c : ℕ = conn.0 in
       let k : Change = piece_change w c b (early_end s) in
@@ -156,7 +157,7 @@ module _ {F R I O : Type 0} (f : files.Ghosts F) (r : roads.Ghosts R I O) (i : l
         replica = λ a. x.stays.same ∙ (h.stands.replica ∙ sym (still_replica w (happens w (event.Ready conn)) c b k a refl));
       }
 
-  broken_by : (took : Took) → HasStepped took → (x : HasFailed f book book' read.end.outward st.read.end.outward took) → ClosesBy (event.Fault (delivery.Ready conn)) (breaks_packet w conn.0 b e)
+  broken_by : (took : Took) → HasStepped took → (x : HasFailed f o book book' read.end.outward st.read.end.outward took) → ClosesBy (event.Fault (delivery.Ready conn)) (breaks_packet w conn.0 b e)
   broken_by took h x =
       let c : ℕ = conn.0 in
       record {
@@ -179,13 +180,13 @@ module _ {F R I O : Type 0} (f : files.Ghosts F) (r : roads.Ghosts R I O) (i : l
   sent_ends took (Ok outcome_is.Faulted) h x p = absurd p
   sent_ends took (Err why) h x p = caused why (road_caused f r i o conn.0 book road road' why p)
 
-  refused_ends : (took : Took) (result : Result (Outcome I O) ServeFault) → HasStepped took → IsRefused s book book' read.end.outward st.read.end.outward took → PlacesShut r i o st.breaks st.read.end road road' result → PacketEnds f r i o w net conn b book book' road road' result
+  refused_ends : (took : Took) (result : Result (Outcome I O) ServeFault) → HasStepped took → IsRefused o s book book' read.end.outward st.read.end.outward took → PlacesShut r i o st.breaks st.read.end road road' result → PacketEnds f r i o w net conn b book book' road road' result
   refused_ends took (Ok (outcome_is.Serves new)) h x p = absurd p
   refused_ends took (Ok outcome_is.Ended) h x p = served_shut took h (event.Ready conn) _ (refused_by took h x) x.none p.1
   refused_ends took (Ok outcome_is.Faulted) h x p = absurd (one_flag st.breaks p.0 (h.step.breaks ∙ x.stays.whole))
   refused_ends took (Err why) h x p = caused why (memory_caused f r i o conn.0 book road road' why p)
 
-  failed_ends : (took : Took) (result : Result (Outcome I O) ServeFault) → HasStepped took → HasFailed f book book' read.end.outward st.read.end.outward took → PlacesShut r i o st.breaks st.read.end road road' result → PacketEnds f r i o w net conn b book book' road road' result
+  failed_ends : (took : Took) (result : Result (Outcome I O) ServeFault) → HasStepped took → HasFailed f o book book' read.end.outward st.read.end.outward took → PlacesShut r i o st.breaks st.read.end road road' result → PacketEnds f r i o w net conn b book book' road road' result
   failed_ends took (Ok (outcome_is.Serves new)) h x p = absurd p
   failed_ends took (Ok outcome_is.Ended) h x p = absurd (one_flag st.breaks (h.step.breaks ∙ x.broke) p.0)
   failed_ends took (Ok outcome_is.Faulted) h x p = record { rose = x.rose; ends = served_shut took h (event.Fault (delivery.Ready conn)) _ (broken_by took h x) x.none p.1 }

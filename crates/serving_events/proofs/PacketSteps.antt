@@ -20,15 +20,16 @@ use Rattle.member_events.specs.ReplicaFiles.Endings.{BookEnds}
 use Rattle.visible_read.specs.ReadCore.ServePhase.{ServePhase}
 use Rattle.visible_read.specs.ReadCore.ServePhase.TheVariants as phase
 use Rattle.visible_read.specs.ReadCore.Servings.{ServingState, piece_len, piece_event, piece_of, packet_of, call_at, next_call, gone_on, sent_in, sent as sent_on}
-use Rattle.visible_read.specs.PipeTurns.Turning.{SendsAlone}
-use Rattle.visible_read.specs.PipeTurns.Done.{Done}
-use Rattle.visible_read.specs.PipeTurns.Done.TheVariants as done
+use Rattle.visible_read.specs.Sendings.{SendsText}
+use Rattle.visible_read.specs.declared.sending.Sending as read_sending
+use Rattle.visible_read.specs.declared.sending.Sending.TheVariants as sent
 use Rattle.visible_read.specs.declared.answering.Served.TheVariants as served
 use Rattle.visible_read.specs.declared.answering.Took.{Took}
 use Rattle.visible_read.specs.Packets.{passed, passed_on, PassesAll, SendsBooked, SendsNext}
-use Rattle.member_events.proofs.TurnEnds.{HasSaid, alone}
+use Rattle.link_pieces.specs.Pieces.{SendsNothing}
+use Rattle.member_events.proofs.TurnEnds.{HasSaid}
 use Rattle.serving_events.proofs.ReadRows.{IsAnswered, answered_same, failed_breaks, answered_whole, failed_broke, all_there}
-use Rattle.serving_events.proofs.RequestSteps.{breaks_in, alone_rose, never_books}
+use Rattle.serving_events.proofs.RequestSteps.{breaks_in, said_by, lost_by}
 
 -- THE NEXT CALL
 
@@ -71,20 +72,20 @@ pub record SendsPacket {F O : Type 0} (f : files.Ghosts F) (o : link_out.Ghosts 
   pub is : took ≡ passed_on s (packet_of s body) receipt
 
 -- The replica has refused the packet.
-pub record IsRefused {F O : Type 0} (s : ServingState) (book book' : BookState F) (out out' : O) (took : Took) : Type 0 where
+pub record IsRefused {F O : Type 0} (o : link_out.Ghosts O) (s : ServingState) (book book' : BookState F) (out out' : O) (took : Took) : Type 0 where
   pub why : Refusal
   pub is : took.served ≡ Some (served.Refused why)
   pub refused : transition (replica_of book).known (piece_event s) ≡ Err why
   pub stays : StaysWhole book book'
-  pub none : out' ≡ out
+  pub none : SendsNothing o out out'
 
 -- The call on the replica's files failed.
-pub record HasFailed {F O : Type 0} (f : files.Ghosts F) (book book' : BookState F) (out out' : O) (took : Took) : Type 0 where
+pub record HasFailed {F O : Type 0} (f : files.Ghosts F) (o : link_out.Ghosts O) (book book' : BookState F) (out out' : O) (took : Took) : Type 0 where
   pub is : took.served ≡ Some served.File
   pub breaks : replica_of book' ≡ broken (replica_of book)
   pub broke : breaks_in book book' ≡ true
   pub rose : FaultsIncreased (f.faults book.drawer) (f.faults book'.drawer)
-  pub none : out' ≡ out
+  pub none : SendsNothing o out out'
 
 -- Files that aren't observable gave too few bytes.
 pub record HasTooFew {F : Type 0} (f : files.Ghosts F) (book book' : BookState F) (took : Took) : Type 0 where
@@ -94,8 +95,8 @@ pub record HasTooFew {F : Type 0} (f : files.Ghosts F) (book book' : BookState F
 
 pub data Sending {F O : Type 0} (f : files.Ghosts F) (o : link_out.Ghosts O) (s : ServingState) (book book' : BookState F) (out out' : O) (took : Took) : Type 0 where
   sends : SendsPacket f o s book book' out out' took → Sending f o s book book' out out' took
-  refuses : IsRefused s book book' out out' took → Sending f o s book book' out out' took
-  fails : HasFailed f book book' out out' took → Sending f o s book book' out out' took
+  refuses : IsRefused o s book book' out out' took → Sending f o s book book' out out' took
+  fails : HasFailed f o book book' out out' took → Sending f o s book book' out out' took
   lacks : HasTooFew f book book' took → Sending f o s book book' out out' took
   unmade : took.served ≡ Some served.Memory → Sending f o s book book' out out' took
   lost : took.served ≡ Some served.LinkFailed → FaultsIncreased (o.faults out) (o.faults out') → Sending f o s book book' out out' took
@@ -109,15 +110,11 @@ module _ {F O : Type 0} (f : files.Ghosts F) (o : link_out.Ghosts O) (s : Servin
       let same = answered_same f book book' s.named s.at (piece_len s) booked before.held.full ends ok in
       record { same = same; whole = answered_whole f book book' s.named s.at (piece_len s) before.known after.known same }
 
-  sending_by : (body : List ℕ) (receipt : Receipt) (d : Done) → IfSome (f.files book.drawer) (λ _. body ≡ piece_of (replica_of book) s) → Takes (replica_of book) (replica_event.Other (piece_event s)) → StaysWhole book book'
-      → SendsAlone o (Some (packet_text (packet_of s body))) d out out' → took ≡ passed s (packet_of s body) receipt d → Sending f o s book book' out out' took
-  sending_by body receipt (done.Taken b) bytes takes stays h is =
-      sends (record { body = body; receipt = receipt; bytes = bytes; takes = takes; stays = stays; says = alone o (Some (packet_text (packet_of s body))) b out out' h; is = is })
-  sending_by body receipt (done.LinkFailed b) bytes takes stays h is = lost (ap (λ (t : Took). t.served) is) (alone_rose o (Some (packet_text (packet_of s body))) b out out' h)
-  sending_by body receipt done.Memory bytes takes stays h is = unmade (ap (λ (t : Took). t.served) is)
-  sending_by body receipt (done.Refused why b) bytes takes stays h is = absurd (never_books o (Some (packet_text (packet_of s body))) (done.Refused why b) out out' tt h)
-  sending_by body receipt (done.File b) bytes takes stays h is = absurd (never_books o (Some (packet_text (packet_of s body))) (done.File b) out out' tt h)
-  sending_by body receipt (done.MirrorFailed b) bytes takes stays h is = absurd (never_books o (Some (packet_text (packet_of s body))) (done.MirrorFailed b) out out' tt h)
+  sending_by : (body : List ℕ) (receipt : Receipt) (d : read_sending.Sending) → IfSome (f.files book.drawer) (λ _. body ≡ piece_of (replica_of book) s) → Takes (replica_of book) (replica_event.Other (piece_event s)) → StaysWhole book book'
+      → SendsText o (Some (packet_text (packet_of s body))) d out out' → took ≡ passed s (packet_of s body) receipt d → Sending f o s book book' out out' took
+  sending_by body receipt sent.Sent bytes takes stays h is =
+      sends (record { body = body; receipt = receipt; bytes = bytes; takes = takes; stays = stays; says = said_by o (Some (packet_text (packet_of s body))) out out' h; is = is })
+  sending_by body receipt sent.LinkFailed bytes takes stays h is = lost (ap (λ (t : Took). t.served) is) (lost_by o (Some (packet_text (packet_of s body))) out out' h)
 
   hidden_by : (files : Option FileMap) (body : List ℕ) → Takes (replica_of book) (replica_event.Other (piece_event s)) → IfSome files (λ _. body ≡ piece_of (replica_of book) s) → (length body == piece_len s) ≡ false → files ≡ None
   hidden_by None body takes bytes few = refl
@@ -126,7 +123,7 @@ module _ {F O : Type 0} (f : files.Ghosts F) (o : link_out.Ghosts O) (s : Servin
 
   reading_by : (whole : Bool) (body : List ℕ) (receipt : Receipt) → (length body == piece_len s) ≡ whole → IfSome (f.files book.drawer) (λ _. body ≡ piece_of (replica_of book) s) → Takes (replica_of book) (replica_event.Other (piece_event s)) → StaysWhole book book'
       → PassesAll o whole s receipt body out out' took → Sending f o s book book' out out' took
-  reading_by true body receipt e bytes takes stays p = sending_by body receipt p.done bytes takes stays p.sent p.follows
+  reading_by true body receipt e bytes takes stays p = sending_by body receipt p.sending bytes takes stays p.sent p.follows
   reading_by false body receipt e bytes takes stays p = lacks (record { is = ap (λ (t : Took). t.served) p.0; whole = stays.whole; hidden = hidden_by (f.files book.drawer) body takes bytes e })
 
   booked_by : (booked : Result Receipt BookFault) → BookEnds f book book' (replica_event.Other (piece_event s)) booked → SendsBooked o (f.files book.drawer) (replica_of book) s booked out out' took → Sending f o s book book' out out' took

@@ -58,7 +58,7 @@ use Rattle.serving_events.proofs.DrawnLaws.{request_makes, read_sends}
 use Rattle.serving_events.proofs.EndMoves.{opened, closed}
 use Rattle.serving_events.proofs.FaultLaws.{memory_caused, road_caused, lost_caused}
 use Rattle.serving_events.proofs.ReadTexts.{answer_text}
-use Rattle.serving_events.proofs.RequestSteps.{breaks_in, IsQuiet, HasBroken, IsAnswering, answering_of, Telling, sent, unmade, lost, telling_of}
+use Rattle.serving_events.proofs.RequestSteps.{breaks_in, IsQuiet, HasBroken, IsAnswering, answering_of, Telling, sent, lost, telling_of}
 use Rattle.serving_events.proofs.WorldAfter.{AfterChange, after_change, still_replica, new_replica}
 
 -- a refused read has ended
@@ -248,7 +248,6 @@ module _ {F R I O : Type 0} (f : files.Ghosts F) (r : roads.Ghosts R I O) (i : l
       → IsQuiet op book book' x ⊎ HasBroken f op book book' x → Telling o x receipt end.outward st.read.end.outward took → IsPlaced r i o st.served st road road' result
       → RequestEnds f r i o w net conn answered op book book' road road' result
   telling_ends h answered took x receipt result leaves ends how (sent says is) p = answered_ends h answered took x receipt result leaves ends how says is p
-  telling_ends h answered took x receipt result leaves ends how (unmade is) p = memory_ends answered result (subst (λ (y : Option Served). IsPlaced r i o y st road road' result) (ends ∙ is) p)
   telling_ends h answered took x receipt result leaves ends how (lost is rose) p = lost_ends h answered result rose (subst (λ (y : Option Served). IsPlaced r i o y st road road' result) (ends ∙ is) p)
 
   step_ends : HasStepped → (answered : Bool) (took : Took) (result : Result (Outcome I O) ServeFault) → st.read.serving ≡ left (unanswered op) took → st.served ≡ took.served

@@ -19,14 +19,14 @@ use Rattle.request_refusals.specs.declared.refusals.RequestRefusal.TheVariants a
 use Rattle.request_refusals.specs.Pools.{is_in_pool}
 use Rattle.visible_read.specs.ReadCore.Servings.{ServingState, read_at, read_event}
 use Rattle.visible_read.specs.PipeTurns.Acting.{sized_response}
-use Rattle.visible_read.specs.PipeTurns.Turning.{SendsAlone}
-use Rattle.visible_read.specs.PipeTurns.Done.{Done}
-use Rattle.visible_read.specs.PipeTurns.Done.TheVariants as done
+use Rattle.visible_read.specs.Sendings.{SendsText}
+use Rattle.visible_read.specs.declared.sending.Sending.{Sending}
+use Rattle.visible_read.specs.declared.sending.Sending.TheVariants as sending
 use Rattle.visible_read.specs.FrameFeed.Message.TheVariants as reply
 use Rattle.visible_read.specs.declared.answering.Served.TheVariants as served
 use Rattle.visible_read.specs.declared.answering.Took.{Took}
 use Rattle.visible_read.specs.Answers.{answering, answered, told, Asks, Answers, Tells, TellsIf, begun_by, receipt_in}
-use Rattle.member_events.proofs.TurnEnds.{HasSaid, alone}
+use Rattle.member_events.proofs.TurnEnds.{HasSaid}
 use Rattle.serving_events.proofs.ReadRows.{IsAnswered, answered_same, failed_breaks, answered_whole, failed_broke}
 
 -- WHAT THE BOOK DID
@@ -100,7 +100,10 @@ module _ {F O : Type 0} (f : files.Ghosts F) (o : link_out.Ghosts O) (op : ReadO
         });
         tells = tells;
       })
-  answering_by before after (Err why) (Some booked) is asks tells = absurd asks
+  answering_by before after (Err why) (Some (Ok receipt)) is asks tells = absurd asks
+  answering_by before after (Err why) (Some (Err (fault.Refused e receipt))) is asks tells = absurd asks
+  answering_by before after (Err why) (Some (Err (fault.File receipt))) is asks tells = absurd asks
+  answering_by before after (Err why) (Some (Err fault.Memory)) is asks tells = inl (ap (λ (t : Took). t.served) tells.0)
   answering_by before after (Ok e) None is asks tells = absurd asks
   answering_by before after (Ok e) (Some (Ok receipt)) is asks tells =
       inr (record { x = read_at op (replica_of book); receipt = Some receipt; how = inl (quiet_by f op book book' before after e (Ok receipt) is asks tt (read_at op (replica_of book)) refl); tells = tells })
@@ -115,44 +118,24 @@ module _ {F O : Type 0} (f : files.Ghosts F) (o : link_out.Ghosts O) (op : ReadO
 
 -- HOW IT WAS SENT
 
--- The answer was sent, or it wasn't: memory ran out, or the link failed, and its count rose.
+-- The answer was sent, or the link failed, and its count rose.
 pub data Telling {O : Type 0} (o : link_out.Ghosts O) (x : Result ServingState RequestRefusal) (receipt : Option Receipt) (out out' : O) (took : Took) : Type 0 where
   sent : HasSaid o (sized_response (answering x)) out out' → took ≡ answered x (reply.Response (answering x)) receipt → Telling o x receipt out out' took
-  unmade : took.served ≡ Some served.Memory → Telling o x receipt out out' took
   lost : took.served ≡ Some served.LinkFailed → FaultsIncreased (o.faults out) (o.faults out') → Telling o x receipt out out' took
 
--- what a message that is sent alone never ends by
-abbrev pub IsBooking : Done → Type 0
-IsBooking (done.Refused why r) = Unit {0}
-IsBooking (done.File r) = Unit {0}
-IsBooking (done.MirrorFailed r) = Unit {0}
-IsBooking other = ⊥
+-- what was sent, where there was room for it
+pub said_by : {O : Type 0} (o : link_out.Ghosts O) (text : Option (List ℕ)) (out out' : O) → SendsText o text sending.Sent out out' → HasSaid o text out out'
+said_by o None out out' h = inr h
+said_by o (Some text) out out' h = h
+
+pub lost_by : {O : Type 0} (o : link_out.Ghosts O) (text : Option (List ℕ)) (out out' : O) → SendsText o text sending.LinkFailed out out' → FaultsIncreased (o.faults out) (o.faults out')
+lost_by o None out out' h = absurd h
+lost_by o (Some text) out out' h = h.rose
 
 module _ {O : Type 0} (o : link_out.Ghosts O) where
-  pub alone_rose : (text : Option (List ℕ)) (receipt : Option Receipt) (out out' : O) → SendsAlone o text (done.LinkFailed receipt) out out' → FaultsIncreased (o.faults out) (o.faults out')
-  alone_rose None None out out' h = absurd h
-  alone_rose None (Some r) out out' h = absurd h
-  alone_rose (Some text) None out out' h = h.rose
-  alone_rose (Some text) (Some r) out out' h = absurd h
-
-  pub never_books : (text : Option (List ℕ)) (d : Done) (out out' : O) → IsBooking d → SendsAlone o text d out out' → ⊥
-  never_books None (done.Refused why r) out out' k h = h
-  never_books (Some text) (done.Refused why r) out out' k h = h
-  never_books None (done.File r) out out' k h = h
-  never_books (Some text) (done.File r) out out' k h = h
-  never_books None (done.MirrorFailed r) out out' k h = h
-  never_books (Some text) (done.MirrorFailed r) out out' k h = h
-  never_books text (done.Taken r) out out' k h = k
-  never_books text (done.LinkFailed r) out out' k h = k
-  never_books text done.Memory out out' k h = k
-
-  telling_by : (x : Result ServingState RequestRefusal) (receipt : Option Receipt) (out out' : O) (took : Took) (d : Done) → SendsAlone o (sized_response (answering x)) d out out' → took ≡ told x (answering x) receipt d → Telling o x receipt out out' took
-  telling_by x receipt out out' took (done.Taken r) h is = sent (alone o (sized_response (answering x)) r out out' h) is
-  telling_by x receipt out out' took (done.LinkFailed r) h is = lost (ap (λ (t : Took). t.served) is) (alone_rose (sized_response (answering x)) r out out' h)
-  telling_by x receipt out out' took done.Memory h is = unmade (ap (λ (t : Took). t.served) is)
-  telling_by x receipt out out' took (done.Refused why r) h is = absurd (never_books (sized_response (answering x)) (done.Refused why r) out out' tt h)
-  telling_by x receipt out out' took (done.File r) h is = absurd (never_books (sized_response (answering x)) (done.File r) out out' tt h)
-  telling_by x receipt out out' took (done.MirrorFailed r) h is = absurd (never_books (sized_response (answering x)) (done.MirrorFailed r) out out' tt h)
+  telling_by : (x : Result ServingState RequestRefusal) (receipt : Option Receipt) (out out' : O) (took : Took) (d : Sending) → SendsText o (sized_response (answering x)) d out out' → took ≡ told x (answering x) receipt d → Telling o x receipt out out' took
+  telling_by x receipt out out' took sending.Sent h is = sent (said_by o (sized_response (answering x)) out out' h) is
+  telling_by x receipt out out' took sending.LinkFailed h is = lost (ap (λ (t : Took). t.served) is) (lost_by o (sized_response (answering x)) out out' h)
 
   pub telling_of : (x : Result ServingState RequestRefusal) (receipt : Option Receipt) (out out' : O) (took : Took) → Tells o x receipt out out' took → Telling o x receipt out out' took
-  telling_of x receipt out out' took t = telling_by x receipt out out' took t.done t.sent t.follows
+  telling_of x receipt out out' took t = telling_by x receipt out out' took t.sending t.sent t.follows

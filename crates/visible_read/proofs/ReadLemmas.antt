@@ -1,7 +1,6 @@
 -- A read at a replica, by what its book answers.
-use Rattle.std.proofs.Common.{◌≡◌, ◌+◌, ◌-◌, ◌^◌, ℕ, nat_le, Bool, true, false, not, if◌then◌else◌, Option, Some, None, option_map, Result, Ok, Err, inl, inr, refl, sym, ap, subst, ◌∙◌}
+use Rattle.std.proofs.Common.{◌≡◌, ℕ, Bool, true, false, not, if◌then◌else◌, Option, Some, None, Result, Ok, Err, inl, inr, refl, sym, ap, subst, ◌∙◌}
 use Rattle.std.specs.Prelude.{IsOk}
-use Rattle.std.specs.Option.{option_and_then}
 use Rattle.hd_base.specs.Results.{◌>>=◌}
 use Rattle.hd_base.specs.SumRules.{Rule, IsChunkSize}
 use Rattle.hd_base.specs.declared.files.Files as files
@@ -19,7 +18,7 @@ use Rattle.replica_core.specs.declared.refusals.Refusal.TheVariants as core_refu
 use Rattle.replica_core.specs.Refusals.{check}
 use Rattle.replica_core.specs.Info.{visible_of, readable}
 use Rattle.replica_core.specs.Transitions.{Outcome, reply, answer_of, there, transition, answer_to}
-use Rattle.replica_core.specs.Views.{rule_in, visible_in}
+use Rattle.replica_core.specs.Views.{rule_in}
 use Rattle.read_core.specs.ReplicaModel.Rows.{FullReplica}
 use Rattle.read_core.specs.ReplicaModel.ReplicaEvent.TheVariants as replica_event
 use Rattle.pipe_turns.specs.ReplicaFiles.BookState.{BookState}

@@ -1,5 +1,5 @@
 -- What is sent of a read, for which there is room before it is booked.
-use Rattle.std.specs.Prelude.{ℕ, ◌≡◌, ◌<◌, List, length, Option, Some, None, IfSome}
+use Rattle.std.specs.Prelude.{ℕ, ◌<◌, List, length, Option, Some, None, IfSome}
 use Rattle.hd_base.specs.declared.links.LinkOut as link_out
 use Rattle.link_pieces.specs.Pieces.{SendsNothing, SendsPiece, FailsToSend}
 use Rattle.visible_read.specs.declared.sending.Sending.{Sending}

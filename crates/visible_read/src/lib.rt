@@ -19,5 +19,6 @@ pub use driving::serve_read;
 pub use laws::packets_follow_the_read;
 pub use reading::Reading;
 pub use reading_back::read_back;
+pub use sending::Sending;
 pub use serving::Serving;
 pub use talking::{ReadFault, ReadStep};

@@ -10,7 +10,7 @@ use std::alloc::{AllocError, Global};
 
 /// Whether a message was sent for which there was room.
 #[derive(Clone, Copy, Debug)]
-pub(crate) enum Sending {
+pub enum Sending {
     /// It was sent, or is too long to be sent.
     Sent,
     /// The link failed, and its count of faults rose.

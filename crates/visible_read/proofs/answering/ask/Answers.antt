@@ -1,5 +1,4 @@
 -- The read is booked once there is memory for its answer.
-use Rattle.std.proofs.Common.{refl}
 use Rattle.pipe_turns.proofs.StillLemmas.{still}
 use Rattle.visible_read.proofs.ReadLemmas.{answers, wants-asked}
 use Rattle.visible_read.proofs.answering.ask.Goals as goal

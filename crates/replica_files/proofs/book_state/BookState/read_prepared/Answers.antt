@@ -1,7 +1,6 @@
 -- A read that is taken leaves the book as it was before the step.
 use Rattle.replica_model.specs.declared.events.ReplicaEvent.TheVariants as replica_event
-use Rattle.std.proofs.Common.{sym, ◌∙◌, Err}
-use Rattle.replica_files.proofs.EndLemmas.{ends_stepped}
+use Rattle.std.proofs.Common.{sym, ◌∙◌}
 use Rattle.replica_files.proofs.ReadLemmas.{read_before, read_prepares, read_stops, read_goes_on}
 use Rattle.replica_files.proofs.book_state.BookState.read_prepared.Goals as goal
 
