@@ -299,8 +299,12 @@ fn full_read(alloc: Global) -> Result<Op, AllocError> {
 #[test]
 fn reads_full_requests(rt: HostRuntime) -> Result<(), Fail> {
     let alloc = rt.alloc();
-    assert!(rt; is_read(&rt, alloc, &full_write(alloc)?, WRITE)?);
-    assert!(rt; is_read(&rt, alloc, &full_read(alloc)?, READ)?);
+    let write = full_write(alloc)?;
+    let read = full_read(alloc)?;
+    let is_write_read = is_read(&rt, alloc, &write, WRITE)?;
+    let is_read_read = is_read(&rt, alloc, &read, READ)?;
+    assert!(rt; is_write_read);
+    assert!(rt; is_read_read);
     Ok(())
 }
 
