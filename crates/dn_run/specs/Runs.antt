@@ -29,6 +29,8 @@ use Rattle.dn_run.specs.declared.exits.Exit.TheVariants as exit
 use Rattle.whole_play.specs.PlayScripts.Failures.{HaveNoFailures}
 use Rattle.whole_play.specs.PlayScripts.Reads.{read_numbers}
 use Rattle.play_readings.specs.Endings.{HasResult}
+use Rattle.play_recovery_ends.specs.Endings.{RecoveryEnds}
+use Rattle.play_recovery_ends.specs.PlayScripts.Recoveries.{recovery_numbers}
 use Rattle.world.specs.Safe.{Safe, Has}
 use Rattle.dn_run.specs.Answers.{AppendsKeepMembers, Completes}
 use Rattle.dn_run.specs.Reading.{IsPlayable, IsRefused, IsRefusal, HasRead}
@@ -150,8 +152,9 @@ IsPlainExit other = ⊥
 
 -- ENDS
 
--- The source was read to its end, and what it gave is a script, which was played: the world in which it ended is safe, and
--- each read has a result. Where no line makes something fail, and appends keep members, it completes.
+-- The source was read to its end, and what it gave is a script, which was played: the world in which it ended is safe,
+-- each read has a result, and so has each recovery, but where its node stopped or didn't run. Where no line makes
+-- something fail, and appends keep members, it completes.
 pub record HasRun {I S D R L M : Type 0} (tells : Bool) (i : sources.Ghosts I) (s : shelves.Ghosts S D)
     (d : files.Ghosts D) (r : roads.Ghosts R L M) (script script' : I) (old new : List S) (road : R) (p : Played) :
     Type 0 where
@@ -160,6 +163,7 @@ pub record HasRun {I S D R L M : Type 0} (tells : Bool) (i : sources.Ghosts I) (
   pub played : IsPlayed s d r lines old new road p
   pub safe : Safe (world_of played.closed.through.end)
   pub reads : (i : ℕ) → Has (read_numbers lines) i → HasResult (world_of played.closed.through.end) i
+  pub recoveries : (i : ℕ) → Has (recovery_numbers lines) i → RecoveryEnds lines played.closed.through.end i
   pub complete : HaveNoFailures lines → AppendsKeepMembers lines → Completes lines (world_of played.closed.through.end)
 
 -- So it was; the whole report was written, and this is the first difference from what is expected, if there is one.

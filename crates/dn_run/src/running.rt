@@ -17,6 +17,7 @@ use crate::tasks::{Task, read_task};
 use fault_ports::CutRoads;
 use hd_base::{Sink, Source};
 use play_readings::plays_end_their_reads;
+use play_recovery_ends::plays_end_their_recoveries;
 use refusing_files::Refusing;
 use std::alloc::Global;
 use told_shelves::ToldShelf;
@@ -110,6 +111,7 @@ fn play<I: Source, F: Refusing, S: ToldShelf<Drawer = F>, R: CutRoads>(
     plays_are_safe();
     plays_complete();
     plays_end_their_reads();
+    plays_end_their_recoveries();
     let lines = read_lines::<I, S>(alloc, script, shelves.len())?;
     let played = play_script(alloc, roads, shelves.as_mut_slice(), lines.as_slice())?;
     Ok(played)

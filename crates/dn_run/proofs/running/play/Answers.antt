@@ -120,5 +120,6 @@ returns-clause-played g c =
       played = played;
       safe = c.plays_are_safe.ensures n lines played.closed.through.end fits played.closed.through.plays;
       reads = λ i has. c.plays_end_their_reads.ensures lines played.closed.through.end i played.closed.through.plays has;
+      recoveries = λ i has. c.plays_end_their_recoveries.ensures n lines played.closed.through.end i fits played.closed.through.plays has;
       complete = λ sound members. completes lines (world_of played.closed.through.end) (c.plays_complete.ensures n lines played.closed.through.end fits sound members played.closed.through.plays);
     }

@@ -1,0 +1,14 @@
+pub mod Places
+pub mod Conns
+pub mod Besides
+pub mod Answering
+pub mod ConnEvents
+pub mod Lives
+pub mod Leading
+pub mod Deeds
+pub mod Hears
+pub mod AllLeading
+pub mod Going
+pub mod Beginning
+pub mod Stopping
+pub mod WorldSettling

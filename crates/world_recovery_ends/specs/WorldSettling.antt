@@ -1,0 +1,2 @@
+-- What `world_settling` has, passed on to the crates above.
+pub use Rattle.world_settling.specs.Draws
