@@ -18,3 +18,4 @@ pub mod Owning
 pub mod Telling
 pub mod Events
 pub mod Taken
+pub mod Plain

@@ -4,7 +4,7 @@
 
 ghost use Rattle.std.specs.Prelude.{◌≤◌};
 ghost use Rattle.hd_base.specs.declared.roads.TheConstants.{MAX_NODES};
-ghost use Rattle.world_syncs.specs.Replaying.{AllReplayed};
+ghost use Rattle.world_syncs.specs.Replaying.{AllPlain, AllReplayed};
 ghost use Rattle.world_syncs.specs.Syncing.{AllTaken};
 
 use world::Schedule;
@@ -12,6 +12,12 @@ use world::Schedule;
 /// A node's replica of a block is what the events of the node's present life made of what it was when that began.
 pub fn replicas_are_replayed()
     ensures { AllReplayed }
+{}
+
+/// No replica of a history is TEMPORARY: neither that with which the life of its node began, nor what an event since
+/// then made of it.
+pub fn histories_are_plain()
+    ensures { AllPlain }
 {}
 
 /// Each member that an answer to an hsync names, where it is steady since the stamp of the answer, took a packet with
